@@ -1,0 +1,418 @@
+-- Laws of texts: what the readers' and the writers' loops ask; that a written text is read back; that a reader's answer depends on the field's own
+-- bytes alone; and that the writer takes the characters of every text that a reader calls good.
+use mathlib.Core.Path.{_≡_, refl, sym, ap, ap₂, subst, _∙_}
+use Prim.Native.Nat.{ℕ, zero, suc, _+_, _-_, _^_, _≤_, _<_}
+use native.Mathlib.Nat.{le-of-lt}
+use native.Mathlib.Numerals.{add-one}
+use native.Mathlib.Omega.{arith}
+use mathlib.Core.Bool.{Bool, true, false, cond}
+use mathlib.Core.List.{List, [], _∷_, _++_, append-nil, append-assoc}
+use lib.Dec.{leb, ltb, eqb}
+use lib.ListN.{length, getD, set, take, drop, replicate, drop-of-length-le, length-append, length-drop, length-replicate}
+use lib.Seq.{set-at, append-snoc, drop-cons, take-all, take-suc, split-at, take-at, drop-at, take-take, take-add, drop-drop, length-take-le}
+use borrow.Author.Tests.{le-leb, lt-leb, lt-ltb, ne-eqb, leb-true, ltb-true}
+use Rattle.wire.specs.declared.laying.Laid.{Laid}
+use Rattle.wire.specs.declared.laying.Laid.the-variants.{BadText}
+use Rattle.wire.specs.declared.text.Null.{Null}
+use Rattle.wire.specs.declared.text.Null.the-variants.{At, Nowhere}
+use Rattle.wire.specs.declared.text.Text.{Text}
+use Rattle.wire.specs.declared.text.Text.the-variants.{Good, Bad}
+use Rattle.wire.specs.Laying.{laid, laidAnswer}
+use Rattle.wire.specs.Number.{number, numberBytes}
+use Rattle.wire.specs.Text.{isCharacter, allCharacters, onePast, null, ended, fixedText, variableBody, variableText, charactersOf, fixedPart, variablePart, takes, fixedBytes, variableBytes}
+use Rattle.wire.proofs.NumberLaws.{length-numberBytes, number-numberBytes}
+
+-- two tests that passed
+both : (p q : Bool) → cond p q false ≡ true → (p ≡ true) × (q ≡ true)
+both true q h = (refl, h)
+both false q h = let z : _≡_ {A = ℕ} 0 1 = cc in absurd (omega arith)
+
+character-not-null : (b : ℕ) → isCharacter b ≡ true → eqb b 0 ≡ false
+unfolding isCharacter
+character-not-null b h =
+    let l : 32 ≤ b = leb-true 32 b (both (leb 32 b) (leb b 126) h .0) in
+    ne-eqb b 0 (λ e. omega arith)
+
+-- k characters more before the null
+unfoldable past : ℕ → Null → Null
+past zero x = x
+past (suc k) x = onePast (past k x)
+
+past-at : (k : ℕ) → past k (At 0) ≡ At k
+unfolding past onePast
+past-at zero = refl
+past-at (suc k) = ap onePast (past-at k)
+
+past-nowhere : (k : ℕ) → past k Nowhere ≡ Nowhere
+unfolding past onePast
+past-nowhere zero = refl
+past-nowhere (suc k) = ap onePast (past-nowhere k)
+
+-- what follows characters alone
+characters-then : (t r : List ℕ) → allCharacters t ≡ true → allCharacters (t ++ r) ≡ allCharacters r
+unfolding allCharacters
+characters-then [] r h = refl
+characters-then (b ∷ t) r h =
+    let p = both (isCharacter b) (allCharacters t) h in
+    rw (p .0) (characters-then t r (p .1))
+
+null-then : (t r : List ℕ) → allCharacters t ≡ true → null (t ++ r) ≡ past (length t) (null r)
+unfolding allCharacters null past
+null-then [] r h = refl
+null-then (b ∷ t) r h =
+    let p = both (isCharacter b) (allCharacters t) h in
+    rw (character-not-null b (p .0), p .0) (ap onePast (null-then t r (p .1)))
+
+-- a null after characters
+pub null-after : (t r : List ℕ) → allCharacters t ≡ true → null (t ++ 0 ∷ r) ≡ At (length t)
+unfolding null
+null-after t r h = null-then t (0 ∷ r) h ∙ past-at (length t)
+
+-- the loops over a text, where the first i bytes are characters
+module _ (s : List ℕ) (i : ℕ) (h : allCharacters (take i s) ≡ true) where
+  module _ (l : i < length s) where
+    pub next-character : isCharacter (getD s i 0) ≡ true → allCharacters (take (i + 1) s) ≡ true
+    unfolding allCharacters
+    next-character e =
+        ap (λ (n : ℕ). allCharacters (take n s)) (add-one i) ∙ ap allCharacters (take-suc s i 0 l)
+        ∙ characters-then (take i s) (getD s i 0 ∷ []) h ∙ rw e
+
+    pub other-character : isCharacter (getD s i 0) ≡ false → allCharacters s ≡ false
+    unfolding allCharacters
+    other-character e =
+        ap allCharacters (split-at s i 0 l) ∙ characters-then (take i s) (getD s i 0 ∷ drop (suc i) s) h ∙ rw e
+
+    pub null-here : getD s i 0 ≡ 0 → null s ≡ At i
+    null-here e =
+        ap null (split-at s i 0 l ∙ ap (λ (b : ℕ). take i s ++ b ∷ drop (suc i) s) e)
+        ∙ null-after (take i s) (drop (suc i) s) h ∙ ap At (length-take-le i s (le-of-lt l))
+
+    pub null-stopped : (getD s i 0 ≡ 0 → ⊥) → isCharacter (getD s i 0) ≡ false → null s ≡ Nowhere
+    unfolding null
+    null-stopped n e =
+        ap null (split-at s i 0 l) ∙ null-then (take i s) (getD s i 0 ∷ drop (suc i) s) h
+        ∙ ap (past (length (take i s))) (rw (ne-eqb (getD s i 0) 0 n, e)) ∙ past-nowhere (length (take i s))
+
+  module _ (l : length s ≤ i) where
+    pub only-characters : allCharacters s ≡ true
+    only-characters = ap allCharacters (sym (take-all i s l)) ∙ h
+
+    pub null-missing : null s ≡ Nowhere
+    unfolding null
+    null-missing =
+        ap null (sym (append-nil s)) ∙ null-then s [] only-characters ∙ past-nowhere (length s)
+
+-- a null that was found: only characters stand before it
+pub record NullAt (s : List ℕ) (n : ℕ) : Type 0 where
+  pub within : n < length s
+  pub characters : allCharacters (take n s) ≡ true
+
+-- one byte b in front, by what was found behind it (x), and by the tests on b (p that it is 0, q that it is a character)
+found-past : (b : ℕ) (s : List ℕ) (n : ℕ) (x : Null) → ((m : ℕ) → x ≡ At m → NullAt s m) → isCharacter b ≡ true → onePast x ≡ At n → NullAt (b ∷ s) n
+unfolding onePast allCharacters
+found-past b s n (At m) h f e =
+    let q : suc m ≡ n = cc in
+    let r = h m refl in
+    let l : m < length s = r .within in
+    subst (λ (j : ℕ). NullAt (b ∷ s) j) q (record { within = omega arith; characters = rw f (r .characters) })
+found-past b s n Nowhere h f e = let z : _≡_ {A = ℕ} 0 1 = cc in absurd (omega arith)
+
+found-cons : (b : ℕ) (s : List ℕ) (n : ℕ) → ((m : ℕ) → null s ≡ At m → NullAt s m) → (p q : Bool) → isCharacter b ≡ q
+    → cond p (At 0) (cond q (onePast (null s)) Nowhere) ≡ At n → NullAt (b ∷ s) n
+unfolding allCharacters
+found-cons b s n h true q f e =
+    let z : 0 ≡ n = cc in
+    subst (λ (j : ℕ). NullAt (b ∷ s) j) z (record { within = omega arith; characters = refl })
+found-cons b s n h false true f e = found-past b s n (null s) h f e
+found-cons b s n h false false f e = let z : _≡_ {A = ℕ} 0 1 = cc in absurd (omega arith)
+
+pub null-found : (s : List ℕ) (n : ℕ) → null s ≡ At n → NullAt s n
+unfolding null
+null-found [] n e = let z : _≡_ {A = ℕ} 0 1 = cc in absurd (omega arith)
+null-found (b ∷ s) n e = found-cons b s n (null-found s) (eqb b 0) (isCharacter b) refl e
+
+-- a good answer passed each test
+good-if : (b : Bool) (x : Text) (n k : ℕ) → cond b x Bad ≡ Good n k → (b ≡ true) × (x ≡ Good n k)
+good-if true x n k e = (refl, e)
+good-if false x n k e = let z : _≡_ {A = ℕ} 0 1 = cc in absurd (omega arith)
+
+ended-good : (m : ℕ) (x : Null) (n k : ℕ) → ended m x ≡ Good n k → (k ≡ m) × (x ≡ At n)
+unfolding ended
+ended-good m (At j) n k e =
+    let p : j ≡ n = cc in
+    let q : k ≡ m = cc in
+    (q, ap At p)
+ended-good m Nowhere n k e = let z : _≡_ {A = ℕ} 0 1 = cc in absurd (omega arith)
+
+-- what the writer takes
+pub record Taken (w : ℕ) (t : List ℕ) : Type 0 where
+  pub room : length t < w
+  pub most : w ≤ 4096
+  pub characters : allCharacters t ≡ true
+
+pub taken : (w : ℕ) (t : List ℕ) → takes w t ≡ true → Taken w t
+unfolding takes
+taken w t h =
+    let p = both (leb 1 w) (cond (leb w 4096) (cond (ltb (length t) w) (allCharacters t) false) false) h in
+    let q = both (leb w 4096) (cond (ltb (length t) w) (allCharacters t) false) (p .1) in
+    let r = both (ltb (length t) w) (allCharacters t) (q .1) in
+    record { room = ltb-true (length t) w (r .0); most = leb-true w 4096 (q .0); characters = r .1 }
+
+-- where the width is allowed and the text and its null fit into it, the characters decide
+pub takes-by-characters : (w : ℕ) (t : List ℕ) → length t < w → w ≤ 4096 → takes w t ≡ allCharacters t
+unfolding takes
+takes-by-characters w t h l =
+    let p : 1 ≤ w = omega arith in
+    rw (le-leb 1 w p, le-leb w 4096 l, lt-ltb (length t) w h)
+
+-- fixed text
+pub length-fixedBytes : (w : ℕ) (t : List ℕ) → length t ≤ w → length (fixedBytes w t) ≡ w
+unfolding fixedBytes
+length-fixedBytes w t h = simp (length-append, length-replicate) (omega arith)
+
+-- a field of its width, whatever stands behind it
+fixed-of : (w : ℕ) (x r : List ℕ) → length x ≡ w → fixedText w (x ++ r) ≡ ended w (null x)
+unfolding fixedText
+fixed-of w x r e =
+    let l : w ≤ length (x ++ r) = rw length-append (omega arith) in
+    rw (le-leb w (length (x ++ r)) l, take-at x r w e)
+
+-- the reader's answer by where it found the null
+pub fixed-read : (w : ℕ) (s : List ℕ) (x : Null) → w ≤ length s → null (take w s) ≡ x → fixedText w s ≡ ended w x
+unfolding fixedText
+fixed-read w s x l e = rw (le-leb w (length s) l, e)
+
+-- a written text is read back, whatever stands behind it
+module _ (w : ℕ) (t r : List ℕ) (h : takes w t ≡ true) where
+  pub fixed-again : fixedText w (fixedBytes w t ++ r) ≡ Good (length t) w
+  unfolding fixedBytes ended
+  fixed-again =
+      let k = taken w t h in
+      let l : length t < w = k .room in
+      let e : w - length t ≡ suc (w - suc (length t)) = omega arith in
+      let z : fixedBytes w t ≡ t ++ 0 ∷ replicate (w - suc (length t)) 0 = ap (λ (n : ℕ). t ++ replicate n 0) e in
+      fixed-of w (fixedBytes w t) r (length-fixedBytes w t (omega arith))
+      ∙ ap (λ (x : List ℕ). ended w (null x)) z
+      ∙ ap (ended w) (null-after t (replicate (w - suc (length t)) 0) (k .characters))
+
+  pub fixed-part-again : fixedPart w (fixedBytes w t ++ r) ≡ t
+  unfolding fixedPart charactersOf fixedBytes
+  fixed-part-again =
+      ap (λ (x : Text). charactersOf x (fixedBytes w t ++ r)) fixed-again
+      ∙ ap (take (length t)) (append-assoc t (replicate (w - length t) 0) r)
+      ∙ take-at t (replicate (w - length t) 0 ++ r) (length t) refl
+
+-- a fixed text that is good
+pub record FixedGood (w : ℕ) (s : List ℕ) (n k : ℕ) : Type 0 where
+  pub whole : w ≤ length s
+  pub extent : k ≡ w
+  pub ends : null (take w s) ≡ At n
+
+module _ (w : ℕ) (s : List ℕ) (n k : ℕ) (h : fixedText w s ≡ Good n k) where
+  pub fixed-good : FixedGood w s n k
+  unfolding fixedText
+  fixed-good =
+      let p = good-if (leb w (length s)) (ended w (null (take w s))) n k h in
+      let q = ended-good w (null (take w s)) n k (p .1) in
+      record { whole = leb-true w (length s) (p .0); extent = q .0; ends = q .1 }
+
+  -- the null stands inside the field, and the field inside the bytes
+  pub fixed-within : (n < k) × (k ≤ length s)
+  fixed-within =
+      let g = fixed-good in
+      let e : k ≡ w = g .extent in
+      let l : w ≤ length s = g .whole in
+      let m : length (take w s) ≡ w = length-take-le w s l in
+      let i : n < length (take w s) = null-found (take w s) n (g .ends) .within in
+      (omega arith, omega arith)
+
+  -- the answer depends on the field's own bytes alone
+  pub fixed-own : (r : List ℕ) → fixedText w (take k s ++ r) ≡ Good n k
+  unfolding ended
+  fixed-own r =
+      let g = fixed-good in
+      ap (λ (j : ℕ). fixedText w (take j s ++ r)) (g .extent)
+      ∙ fixed-of w (take w s) r (length-take-le w s (g .whole)) ∙ ap (ended w) (g .ends) ∙ ap (Good n) (sym (g .extent))
+
+  -- the writer takes the characters
+  pub fixed-writable : w ≤ 4096 → takes w (take n s) ≡ true
+  fixed-writable l =
+      let g = fixed-good in
+      let i = fixed-within in
+      let e : k ≡ w = g .extent in
+      let a : n < k = i .0 in
+      let b : k ≤ length s = i .1 in
+      let m : length (take n s) ≡ n = length-take-le n s (omega arith) in
+      takes-by-characters w (take n s) (omega arith) l
+      ∙ ap allCharacters (sym (take-take n w s (omega arith))) ∙ null-found (take w s) n (g .ends) .characters
+
+-- variable text
+pub length-variableBytes : (t : List ℕ) → length (variableBytes t) ≡ length t + 3
+unfolding variableBytes
+length-variableBytes t = simp (length-append, length-numberBytes) (omega arith)
+
+-- a length p and as many bytes x, whatever stands behind them
+variable-of : (size : ℕ) (p x r : List ℕ) → length p ≡ 2 → number p ≡ length x → length x ≤ size
+    → variableText size (p ++ (x ++ r)) ≡ ended (2 + length x) (null x)
+unfolding variableText variableBody
+variable-of size p x r e q l =
+    let a : 2 ≤ length (p ++ (x ++ r)) = rw length-append (omega arith) in
+    let b : length x ≤ length (x ++ r) = rw length-append (omega arith) in
+    rw (le-leb 2 (length (p ++ (x ++ r))) a, take-at p (x ++ r) 2 e, drop-at p (x ++ r) 2 e, q, le-leb (length x) size l, le-leb (length x) (length (x ++ r)) b, take-at x r (length x) refl)
+
+-- the reader's answers, n being the length that it read: too long, cut off, or by where the null was found
+module _ (size : ℕ) (s : List ℕ) (n : ℕ) (b : 2 ≤ length s) (q : n ≡ number (take 2 s)) where
+  pub variable-long : size < n → variableText size s ≡ Bad
+  unfolding variableText variableBody
+  variable-long l = rw (le-leb 2 (length s) b, ← q, lt-leb n size l)
+
+  module _ (l : n ≤ size) where
+    pub variable-cut : length s < 2 + n → variableText size s ≡ Bad
+    unfolding variableText variableBody
+    variable-cut a =
+        let m : length (drop 2 s) < n = rw length-drop (omega arith) in
+        rw (le-leb 2 (length s) b, ← q, le-leb n size l, lt-leb n (length (drop 2 s)) m)
+
+    pub variable-read : 2 + n ≤ length s → (x : Null) → null (take n (drop 2 s)) ≡ x → variableText size s ≡ ended (2 + n) x
+    unfolding variableText variableBody
+    variable-read a x e =
+        let m : n ≤ length (drop 2 s) = rw length-drop (omega arith) in
+        rw (le-leb 2 (length s) b, ← q, le-leb n size l, le-leb n (length (drop 2 s)) m, e)
+
+-- a written text is read back, whatever stands behind it
+module _ (w : ℕ) (t r : List ℕ) (h : takes w t ≡ true) where
+  pub variable-again : variableText w (variableBytes t ++ r) ≡ Good (length t) (length t + 3)
+  unfolding variableBytes ended
+  variable-again =
+      let k = taken w t h in
+      let x : List ℕ = t ++ 0 ∷ [] in
+      let m : length x ≡ length t + 1 = length-append t (0 ∷ []) in
+      let f : length t + 1 < 256 ^ 2 = omega arith in
+      let e : 2 + length x ≡ length t + 3 = omega arith in
+      ap (variableText w) (append-assoc (numberBytes 2 (length t + 1)) x r)
+      ∙ variable-of w (numberBytes 2 (length t + 1)) x r (length-numberBytes 2 (length t + 1)) (number-numberBytes 2 (length t + 1) f ∙ sym m) (omega arith)
+      ∙ ap (ended (2 + length x)) (null-after t [] (k .characters)) ∙ ap (Good (length t)) e
+
+  pub variable-part-again : variablePart w (variableBytes t ++ r) ≡ t
+  unfolding variablePart charactersOf variableBytes
+  variable-part-again =
+      let p = numberBytes 2 (length t + 1) in
+      ap (λ (x : Text). charactersOf x (drop 2 (variableBytes t ++ r))) variable-again
+      ∙ ap (λ (x : List ℕ). take (length t) (drop 2 x)) (append-assoc p (t ++ 0 ∷ []) r)
+      ∙ ap (take (length t)) (drop-at p ((t ++ 0 ∷ []) ++ r) 2 (length-numberBytes 2 (length t + 1)) ∙ append-assoc t (0 ∷ []) r)
+      ∙ take-at t (0 ∷ r) (length t) refl
+
+-- a variable text that is good
+pub record VariableGood (size : ℕ) (s : List ℕ) (n k : ℕ) : Type 0 where
+  pub most : number (take 2 s) ≤ size
+  pub whole : 2 + number (take 2 s) ≤ length s
+  pub extent : k ≡ 2 + number (take 2 s)
+  pub ends : null (take (number (take 2 s)) (drop 2 s)) ≡ At n
+
+module _ (size : ℕ) (s : List ℕ) (n k : ℕ) (h : variableText size s ≡ Good n k) where
+  pub variable-good : VariableGood size s n k
+  unfolding variableText variableBody
+  variable-good =
+      let m = number (take 2 s) in
+      let x = drop 2 s in
+      let p = good-if (leb 2 (length s)) (variableBody size m x) n k h in
+      let q = good-if (leb m size) (cond (leb m (length x)) (ended (2 + m) (null (take m x))) Bad) n k (p .1) in
+      let r = good-if (leb m (length x)) (ended (2 + m) (null (take m x))) n k (q .1) in
+      let e = ended-good (2 + m) (null (take m x)) n k (r .1) in
+      let a : 2 ≤ length s = leb-true 2 (length s) (p .0) in
+      let b : m ≤ length x = leb-true m (length x) (r .0) in
+      record { most = leb-true m size (q .0); whole = omega (arith, length-drop 2 s); extent = e .0; ends = e .1 }
+
+  variable-length : length (take (number (take 2 s)) (drop 2 s)) ≡ number (take 2 s)
+  variable-length =
+      let m = number (take 2 s) in
+      let l : 2 + m ≤ length s = variable-good .whole in
+      let b : m ≤ length (drop 2 s) = rw length-drop (omega arith) in
+      length-take-le m (drop 2 s) b
+
+  -- the null stands inside the field, behind the length, and the field inside the bytes
+  pub variable-within : (2 + n < k) × (k ≤ length s)
+  variable-within =
+      let g = variable-good in
+      let e : k ≡ 2 + number (take 2 s) = g .extent in
+      let l : 2 + number (take 2 s) ≤ length s = g .whole in
+      let m = variable-length in
+      let i : n < length (take (number (take 2 s)) (drop 2 s)) = null-found (take (number (take 2 s)) (drop 2 s)) n (g .ends) .within in
+      (omega arith, omega arith)
+
+  -- the answer depends on the field's own bytes alone
+  pub variable-own : (r : List ℕ) → variableText size (take k s ++ r) ≡ Good n k
+  unfolding ended
+  variable-own r =
+      let g = variable-good in
+      let m = number (take 2 s) in
+      let x = take m (drop 2 s) in
+      let l : 2 + m ≤ length s = g .whole in
+      let a : 2 ≤ length s = omega arith in
+      let e = variable-length in
+      let b : length x ≤ size = omega (arith, g .most, e) in
+      ap (λ (j : ℕ). variableText size (take j s ++ r)) (g .extent)
+      ∙ ap (λ (y : List ℕ). variableText size (y ++ r)) (take-add 2 m s)
+      ∙ ap (variableText size) (append-assoc (take 2 s) x r)
+      ∙ variable-of size (take 2 s) x r (length-take-le 2 s a) (sym e) b
+      ∙ ap (ended (2 + length x)) (g .ends) ∙ ap (λ (j : ℕ). Good n (2 + j)) e ∙ ap (Good n) (sym (g .extent))
+
+  -- the writer takes the characters
+  pub variable-writable : size ≤ 4096 → takes size (take n (drop 2 s)) ≡ true
+  variable-writable l =
+      let g = variable-good in
+      let m = number (take 2 s) in
+      let i = variable-within in
+      let e : k ≡ 2 + m = g .extent in
+      let a : 2 + n < k = i .0 in
+      let b : k ≤ length s = i .1 in
+      let f : m ≤ size = g .most in
+      let c : n ≤ length (drop 2 s) = rw length-drop (omega arith) in
+      let d : length (take n (drop 2 s)) ≡ n = length-take-le n (drop 2 s) c in
+      takes-by-characters size (take n (drop 2 s)) (omega arith) l
+      ∙ ap allCharacters (sym (take-take n m (drop 2 s) (omega arith))) ∙ null-found (take m (drop 2 s)) n (g .ends) .characters
+
+-- what each way of a text writer owes, whatever it lays; b is whether it takes the text
+pub text-refused : (bs d : List ℕ) (b : Bool) → b ≡ false → (BadText ≡ cond b (laidAnswer bs d) BadText) × (d ≡ cond b (laid bs d) d)
+text-refused bs d b h = (rw h, rw h)
+
+pub text-laid : (bs d : List ℕ) (b : Bool) (a : Laid) (e : List ℕ) → b ≡ true → (a ≡ laidAnswer bs d) × (e ≡ laid bs d)
+    → (a ≡ cond b (laidAnswer bs d) BadText) × (e ≡ cond b (laid bs d) d)
+text-laid bs d b a e h p = (rw h (p .0), rw h (p .1))
+
+-- a text laid at the front, then zeros to the width: e is the buffer after the text, z the part of it that was cleared
+pub lay-fixed : (d t e z : List ℕ) (w : ℕ) → length t ≤ w → e ≡ t ++ drop (length t) d → z ≡ replicate (w - length t) 0
+    → take (length t) e ++ (z ++ drop (w - length t) (drop (length t) e)) ≡ fixedBytes w t ++ drop w d
+unfolding fixedBytes
+lay-fixed d t e z w h p q =
+    let n = length t in
+    let m : n + (w - n) ≡ w = omega arith in
+    ap₂ (λ (x y : List ℕ). take n x ++ (y ++ drop (w - n) (drop n x))) p q
+    ∙ ap₂ (λ (x y : List ℕ). x ++ (replicate (w - n) 0 ++ drop (w - n) y)) (take-at t (drop n d) n refl) (drop-at t (drop n d) n refl)
+    ∙ ap (λ (y : List ℕ). t ++ (replicate (w - n) 0 ++ y)) (drop-drop (w - n) n d ∙ ap (λ (k : ℕ). drop k d) m)
+    ∙ sym (append-assoc t (replicate (w - n) 0) (drop w d))
+
+-- the length, the text and its null laid at the front: e is the buffer after the length, y the part behind it after the text
+pub lay-variable : (d t e y : List ℕ) → length t + 3 ≤ length d → e ≡ numberBytes 2 (length t + 1) ++ drop 2 d
+    → y ≡ t ++ drop (length t) (take (length e - 2) (drop 2 e))
+    → set (take 2 e ++ (y ++ drop (length e - 2) (drop 2 e))) (length t + 2) 0 ≡ variableBytes t ++ drop (length t + 3) d
+unfolding variableBytes
+lay-variable d t e y l p q =
+    let n = length t in
+    let h = numberBytes 2 (n + 1) in
+    let f : length h ≡ 2 = length-numberBytes 2 (n + 1) in
+    let r = drop (suc (2 + n)) d in
+    let behind : drop 2 e ≡ drop 2 d = ap (drop 2) p ∙ drop-at h (drop 2 d) 2 f in
+    let m : length (drop 2 e) ≡ length e - 2 = length-drop 2 e in
+    let none : drop (length e - 2) (drop 2 e) ≡ [] = drop-of-length-le (drop 2 e) {i = length e - 2} (omega arith) in
+    let text : y ≡ t ++ getD d (2 + n) 0 ∷ r =
+    q ∙ ap (λ (x : List ℕ). t ++ drop n x) (take-all (length e - 2) (drop 2 e) (omega arith) ∙ behind)
+    ∙ ap (λ (x : List ℕ). t ++ x) (drop-drop n 2 d ∙ drop-cons d (2 + n) 0 (omega arith)) in
+    let whole : take 2 e ++ (y ++ drop (length e - 2) (drop 2 e)) ≡ (h ++ t) ++ getD d (2 + n) 0 ∷ r =
+    ap₂ (λ (x z : List ℕ). x ++ (y ++ z)) (ap (take 2) p ∙ take-at h (drop 2 d) 2 f) none
+    ∙ ap (λ (x : List ℕ). h ++ x) (append-nil y ∙ text) ∙ sym (append-assoc h t (getD d (2 + n) 0 ∷ r)) in
+    let k : length (h ++ t) ≡ n + 2 = rw length-append (omega arith) in
+    let j : suc (2 + n) ≡ n + 3 = omega arith in
+    ap (λ (x : List ℕ). set x (n + 2) 0) whole ∙ set-at (h ++ t) (getD d (2 + n) 0) r 0 (n + 2) k
+    ∙ sym (append-snoc (h ++ t) 0 r)
+    ∙ ap₂ (λ (x : List ℕ) (i : ℕ). x ++ drop i d) (append-assoc h t (0 ∷ [])) j

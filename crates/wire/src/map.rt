@@ -1,0 +1,39 @@
+// The bits of a presence map: position 0 is the highest bit of the first byte (004 section 6.2.1; document 01,
+// "The frame").
+ghost use mathlib.Core.Path.{_≡_};
+ghost use Prim.Native.Nat.{_<_};
+ghost use Rattle.wire.specs.Map.{bitAt, nextBit, present};
+
+// Whether bit j of a map byte is set, the highest bit being bit 0.
+fn bit_at(byte: u8, j: u8) -> bool
+    requires { ⌜ j < 8 ⌝ }
+    ensures { λ r. ⌜ r ≡ bitAt byte j ⌝ }
+{
+    byte >> (7 - j) & 1 == 1
+}
+
+// Whether position p of a map is set. Positions past the map's end are clear.
+pub fn is_present(map: &[u8], p: usize) -> bool
+    ensures { λ r. ⌜ r ≡ present (now (map .entry)) p ⌝ }
+{
+    let i = p / 8;
+    if map.len() <= i {
+        return false;
+    }
+    let byte = map[i];
+    bit_at(byte, (p % 8) as u8)
+}
+
+// The first set bit of a map byte at or after bit `from`, and 8 where there is none.
+pub fn next_bit(byte: u8, from: u8) -> u8
+    ensures { λ r. ⌜ r ≡ nextBit byte from ⌝ }
+{
+    let mut j = from;
+    while j < 8 {
+        if bit_at(byte, j) {
+            return j;
+        }
+        j += 1;
+    }
+    8
+}

@@ -1,0 +1,187 @@
+// Texts of fixed and of variable length (004 section 6.1, rows 1 and 2; document 01, "Fixed text" and "Variable
+// text").
+use crate::laying::Laid;
+use crate::laying::lay;
+use crate::number::put_u16;
+use crate::number::read_u16;
+ghost use mathlib.Core.Path.{_≡_};
+ghost use Prim.Native.Nat.{_≤_};
+ghost use lib.ListN.{length, replicate};
+ghost use Rattle.wire.specs.Text.{isCharacter, allCharacters, null, fixedText, variableText, fixedPart, variablePart, takes, putFixed, fixedLaid, putVariable, variableLaid};
+
+// Where a text's null stands, if only characters stand before it.
+enum Null {
+    At(usize),
+    Nowhere,
+}
+
+// How many characters stand before a text's null, and how many bytes the whole field takes.
+pub enum Text {
+    Good { characters: usize, taken: usize },
+    Bad,
+}
+
+fn is_character(b: u8) -> bool
+    ensures { λ r. ⌜ r ≡ isCharacter b ⌝ }
+{
+    32 <= b && b <= 126
+}
+
+fn null_in(s: &[u8]) -> Null
+    ensures { λ r. ⌜ r ≡ null (now (s .entry)) ⌝ }
+{
+    let mut i = 0;
+    while i < s.len() {
+        let b = s[i];
+        if b == 0 {
+            return Null::At(i);
+        }
+        if !is_character(b) {
+            return Null::Nowhere;
+        }
+        i += 1;
+    }
+    Null::Nowhere
+}
+
+// The fixed text of this width at the front of s.
+pub fn fixed_text(s: &[u8], width: usize) -> Text
+    ensures { λ r. ⌜ r ≡ fixedText width (now (s .entry)) ⌝ }
+{
+    if s.len() < width {
+        return Text::Bad;
+    }
+    match null_in(&s[..width]) {
+        Null::At(n) => Text::Good {
+            characters: n,
+            taken: width,
+        },
+        Null::Nowhere => Text::Bad,
+    }
+}
+
+// The variable text at the front of s: its length in two bytes, from 1 to `size`, and so many bytes after them.
+pub fn variable_text(s: &[u8], size: usize) -> Text
+    ensures { λ r. ⌜ r ≡ variableText size (now (s .entry)) ⌝ }
+{
+    if s.len() < 2 {
+        return Text::Bad;
+    }
+    let n = read_u16(s) as usize;
+    if size < n {
+        return Text::Bad;
+    }
+    let end = 2 + n;
+    if s.len() < end {
+        return Text::Bad;
+    }
+    match null_in(&s[2..end]) {
+        Null::At(k) => Text::Good {
+            characters: k,
+            taken: end,
+        },
+        Null::Nowhere => Text::Bad,
+    }
+}
+
+// The characters of a fixed text, a part of the caller's bytes; empty where the text is bad.
+pub fn fixed_part(s: &[u8], width: usize) -> &[u8]
+    ensures { λ r. ⌜ now r ≡ fixedPart width (now (s .entry)) ⌝ }
+{
+    match fixed_text(s, width) {
+        Text::Good {
+            characters,
+            taken: _,
+        } => &s[..characters],
+        Text::Bad => &s[..0],
+    }
+}
+
+// The characters of a variable text, a part of the caller's bytes; empty where the text is bad.
+pub fn variable_part(s: &[u8], size: usize) -> &[u8]
+    ensures { λ r. ⌜ now r ≡ variablePart size (now (s .entry)) ⌝ }
+{
+    match variable_text(s, size) {
+        Text::Good {
+            characters,
+            taken: _,
+        } => {
+            let end = 2 + characters;
+            &s[2..end]
+        }
+        Text::Bad => &s[..0],
+    }
+}
+
+fn all_characters(t: &[u8]) -> bool
+    ensures { λ r. ⌜ r ≡ allCharacters (now (t .entry)) ⌝ }
+{
+    let mut i = 0;
+    while i < t.len() {
+        if !is_character(t[i]) {
+            return false;
+        }
+        i += 1;
+    }
+    true
+}
+
+// Whether the text writer takes these characters at this width, null counted.
+pub fn takes_text(width: usize, t: &[u8]) -> bool
+    ensures { λ r. ⌜ r ≡ takes width (now (t .entry)) ⌝ }
+{
+    if width == 0 {
+        return false;
+    }
+    if 4096 < width {
+        return false;
+    }
+    if width <= t.len() {
+        return false;
+    }
+    all_characters(t)
+}
+
+fn clear(d: &mut [u8])
+    ensures { λ _. ⌜ now (d .exit) ≡ replicate (length (now (d .entry))) 0 ⌝ }
+{
+    let mut i = 0;
+    while i < d.len() {
+        d[i] = 0;
+        i += 1;
+    }
+}
+
+// A fixed text at the front of a lent buffer: its characters, and zeros to the width.
+pub fn put_fixed(d: &mut [u8], width: usize, t: &[u8]) -> Laid
+    ensures { λ r. ⌜ (r ≡ putFixed width (now (t .entry)) (now (d .entry))) × (now (d .exit) ≡ fixedLaid width (now (t .entry)) (now (d .entry))) ⌝ }
+{
+    if !takes_text(width, t) {
+        return Laid::BadText;
+    }
+    if d.len() < width {
+        return Laid::NoRoom(width);
+    }
+    let n = t.len();
+    lay(d, t);
+    clear(&mut d[n..width]);
+    Laid::Wrote(width)
+}
+
+// A variable text at the front of a lent buffer: its length, the null counted, its characters and the null.
+pub fn put_variable(d: &mut [u8], size: usize, t: &[u8]) -> Laid
+    ensures { λ r. ⌜ (r ≡ putVariable size (now (t .entry)) (now (d .entry))) × (now (d .exit) ≡ variableLaid size (now (t .entry)) (now (d .entry))) ⌝ }
+{
+    if !takes_text(size, t) {
+        return Laid::BadText;
+    }
+    let n = t.len();
+    let end = n + 3;
+    if d.len() < end {
+        return Laid::NoRoom(end);
+    }
+    put_u16(d, (n + 1) as u16);
+    lay(&mut d[2..], t);
+    d[n + 2] = 0;
+    Laid::Wrote(end)
+}

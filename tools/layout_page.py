@@ -1,0 +1,49 @@
+#!/usr/bin/env python3
+"""Turns the sheet that the program layoutsheet prints into docs/LAYOUT.md: a table for each message type.
+
+    tools/layout_page.py > docs/LAYOUT.md
+"""
+import pathlib
+import re
+import sys
+
+TYPES = {
+    0: ("Heartbeat", "7.7.3"),
+    1: ("Test Request", "7.7.4"),
+    2: ("Resend Request", "7.7.5"),
+    3: ("Reject", "7.7.6"),
+    4: ("Sequence Reset", "7.7.7"),
+    5: ("Logon", "7.7.1"),
+    6: ("Logout", "7.7.2"),
+    7: ("Lookup Request", "7.6.1"),
+    8: ("Lookup Response", "7.6.2"),
+    9: ("Business Message Reject", "7.11.1"),
+    10: ("Execution Report", "7.8, the nine tables together"),
+}
+LINE = re.compile(r"type=(\d+) position=(\d+) name=(.*) sort=(\w+) width=(\d+) required=([YN])")
+
+HEAD = """# The layout sheet
+
+What the proved tables say of each message type, to be laid beside 004. The program `layoutsheet` prints the same lines
+from the tables themselves, and the gate holds this page to what it prints. Names and widths are those of 004 section
+8.2; the width of a variable text is the most that its length may say, null counted. A report's position is required
+where all nine tables of section 7.8 require it.
+"""
+
+
+def page(sheet):
+    rows = {}
+    for line in sheet.splitlines():
+        kind, position, name, sort, width, required = LINE.fullmatch(line).groups()
+        rows.setdefault(int(kind), []).append(f"| {position} | {name} | {sort} | {width} | {required} |\n")
+    text = HEAD
+    for kind, lines in sorted(rows.items()):
+        title, section = TYPES[kind]
+        text += f"\n## {kind}: {title} (004 section {section})\n\n| Position | Name | Sort | Width | Required |\n|---|---|---|---|---|\n"
+        text += "".join(lines)
+    return text
+
+
+if __name__ == "__main__":
+    here = pathlib.Path(__file__).resolve().parent.parent
+    sys.stdout.write(page((here / "crates/layoutsheet/stdout").read_text()))
