@@ -1,0 +1,77 @@
+-- `fields::value::text_at` meets its contract: the row decides.
+use mathlib.Core.Path.{sym, _∙_}
+use Rattle.fields.specs.Value.{rowText, textAt}
+use borrow.Author.Needs.{needs}
+use Rattle.fields.proofs.value.text_at.Statement.{statement}
+use Rattle.fields.proofs.value.text_at.Tie as tie
+
+row-of-requires : tie.Need-row-of-requires
+row-of-requires c κs = search needs
+
+enum-known-field : tie.Need-enum-known-field
+enum-known-field c = search needs
+
+field-text-requires : tie.Need-field-text-requires
+field-text-requires c κs = search needs
+
+enum-known-field-2 : tie.Need-enum-known-field-2
+enum-known-field-2 c = search needs
+
+field-text-requires-2 : tie.Need-field-text-requires-2
+field-text-requires-2 c κs = search needs
+
+enum-told : tie.Need-enum-told
+enum-told c = search needs
+
+slice-aggregate-result : tie.Need-slice-aggregate-result
+slice-aggregate-result c = search needs
+
+enum-told-2 : tie.Need-enum-told-2
+enum-told-2 c = search needs
+
+slice-aggregate-result-2 : tie.Need-slice-aggregate-result-2
+slice-aggregate-result-2 c = search needs
+
+returns : tie.Need-returns
+unfolding textAt rowText
+returns c =
+    let k = c .before .before in
+    let r = k .before .before in
+    simp (c .field-text .ensures, sym (r .row-of .ensures) ∙ k .field .given .1)
+
+returns-2 : tie.Need-returns-2
+unfolding textAt rowText
+returns-2 c =
+    let k = c .before .before in
+    let r = k .before .before in
+    simp (c .field-text2 .ensures, sym (r .row-of .ensures) ∙ k .field2 .given .1)
+
+returns-3 : tie.Need-returns-3
+unfolding textAt rowText
+returns-3 c =
+    let k = c .before in
+    simp (sym (k .before .before .row-of .ensures) ∙ k .enum-told .given .1)
+
+returns-4 : tie.Need-returns-4
+unfolding textAt rowText
+returns-4 c =
+    let k = c .before in
+    simp (sym (k .before .before .row-of .ensures) ∙ k .enum-told2 .given .1)
+
+pub text-at-spec : {M : Type 1} → statement M
+text-at-spec =
+    tie.close
+    (tie.spec
+    row-of-requires
+    enum-known-field
+    field-text-requires
+    enum-known-field-2
+    field-text-requires-2
+    enum-told
+    slice-aggregate-result
+    enum-told-2
+    slice-aggregate-result-2
+    returns
+    returns-2
+    returns-3
+    returns-4)

@@ -1,0 +1,5 @@
+pub mod Sets
+pub mod Check
+pub mod Walk
+pub mod Value
+pub mod Plain

@@ -1,0 +1,95 @@
+// The known and the required set of a message type, against a map. Both follow from the tables.
+use tables::dictionary::Field;
+use tables::dictionary::row_number;
+use tables::table::Row;
+use tables::table::row_of;
+use tables::table::span_of;
+use wire::map::is_present;
+use wire::map::next_bit;
+ghost use mathlib.Core.Path.{_≡_};
+ghost use Prim.Native.Nat.{_<_, _+_, _*_};
+ghost use Rattle.fields.specs.Sets.{unknownTo, missingAt, lowestUnknown, lowestMissing, isRowOf, positionOf};
+
+// A position of a map, or none.
+pub enum Place {
+    At(usize),
+    Nowhere,
+}
+
+// Whether the type does not know position p.
+fn is_unknown(kind: u8, p: usize) -> bool
+    ensures { λ r. ⌜ r ≡ unknownTo kind p ⌝ }
+{
+    !row_of(kind, p).is_known()
+}
+
+// Whether the type requires position p and the map has it clear.
+fn is_missing(kind: u8, map: &[u8], p: usize) -> bool
+    ensures { λ r. ⌜ r ≡ missingAt kind (now (map .entry)) p ⌝ }
+{
+    if !row_of(kind, p).is_required() {
+        return false;
+    }
+    !is_present(map, p)
+}
+
+// The lowest set position that the type does not know. Only set positions are looked up.
+pub fn lowest_unknown(kind: u8, map: &[u8]) -> Place
+    ensures { λ r. ⌜ r ≡ lowestUnknown kind (now (map .entry)) ⌝ }
+{
+    let mut i: usize = 0;
+    while i < 32 && i < map.len() {
+        let byte = map[i];
+        let mut j = next_bit(byte, 0);
+        while j < 8 {
+            let p = i * 8 + j as usize;
+            if is_unknown(kind, p) {
+                return Place::At(p);
+            }
+            j = next_bit(byte, j + 1);
+        }
+        i += 1;
+    }
+    Place::Nowhere
+}
+
+// The lowest required position that the map has clear. No position past the type's span is required.
+pub fn lowest_missing(kind: u8, map: &[u8]) -> Place
+    ensures { λ r. ⌜ r ≡ lowestMissing kind (now (map .entry)) ⌝ }
+{
+    let span = span_of(kind);
+    let mut p: usize = 0;
+    while p < span {
+        if is_missing(kind, map, p) {
+            return Place::At(p);
+        }
+        p += 1;
+    }
+    Place::Nowhere
+}
+
+fn is_row_of(field: Field, row: Row) -> bool
+    ensures { λ r. ⌜ r ≡ isRowOf field row ⌝ }
+{
+    match row {
+        Row::Required(named) => row_number(field) == row_number(named),
+        Row::Optional(named) => row_number(field) == row_number(named),
+        Row::UnknownPosition => false,
+        Row::UnknownType => false,
+    }
+}
+
+// The field's position in a message of this type; 256, which no map has, where its tables do not name the field.
+pub fn position_of(kind: u8, field: Field) -> usize
+    ensures { λ r. ⌜ r ≡ positionOf kind field ⌝ }
+{
+    let span = span_of(kind);
+    let mut p: usize = 0;
+    while p < span {
+        if is_row_of(field, row_of(kind, p)) {
+            return p;
+        }
+        p += 1;
+    }
+    256
+}
