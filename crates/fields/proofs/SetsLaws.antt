@@ -29,7 +29,7 @@ use Rattle.fields.specs.Sets.{
   positionOf,
 }
 use Rattle.fields.proofs.PositionLaws.{present-between, present-beyond}
-use Rattle.fields.proofs.SpanLaws.{span-within, beyond-none}
+use Rattle.fields.proofs.SpanLaws.{span-within, beyond-none, beyond-required}
 
 -- no position below n passes
 pub record NoneBelow (test : ℕ → Bool) (n : ℕ) : Type 0 where
@@ -139,8 +139,7 @@ module _ (kind : ℕ) (m : List ℕ) where
   missing-required p h = rw h
 
   missing-beyond : (p : ℕ) → spanOf kind ≤ p → missingAt kind m p ≡ false
-  unfolding isRequired
-  missing-beyond p h = missing-optional p (beyond-none isRequired refl refl kind p h)
+  missing-beyond p h = missing-optional p (beyond-required kind p h)
 
   pub missing-hit : (p : ℕ) → p < spanOf kind → missingAt kind m p ≡ true → NoneBelow (missingAt kind m) p → At p ≡ lowestMissing kind m
   unfolding lowestMissing

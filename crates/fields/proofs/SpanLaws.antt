@@ -8,7 +8,7 @@ use lib.Dec.{eqb, leb}
 use borrow.Author.Tests.{leb-true}
 use Rattle.tables.specs.declared.table.Row.{Row}
 use Rattle.tables.specs.declared.table.Row.the-variants.{Required, Optional, UnknownPosition, UnknownType}
-use Rattle.tables.specs.Line.{Line, isKnown, span}
+use Rattle.tables.specs.Line.{Line, isKnown, isRequired, span}
 use Rattle.tables.specs.Reports.{
   orderAccepted,
   orderCancelled,
@@ -71,3 +71,7 @@ module _ (test : Row → Bool) (p : test UnknownPosition ≡ false) (q : test Un
 
   pub beyond-none : (kind k : ℕ) → spanOf kind ≤ k → test (rowOf kind k) ≡ false
   beyond-none kind k h = only-known (rowOf kind k) (beyond-span kind k h)
+
+pub beyond-required : (kind p : ℕ) → spanOf kind ≤ p → isRequired (rowOf kind p) ≡ false
+unfolding isRequired
+beyond-required kind p h = beyond-none isRequired refl refl kind p h

@@ -1,0 +1,4 @@
+pub mod AskLaws
+pub mod FrameLaws
+pub mod ReadLaws
+pub mod VetLaws

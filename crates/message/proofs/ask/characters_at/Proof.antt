@@ -1,0 +1,27 @@
+-- `message::ask::characters_at` meets its contract.
+use borrow.Author.Needs.{needs}
+use Rattle.message.proofs.ask.characters_at.Statement.{statement}
+use Rattle.message.proofs.ask.characters_at.Tie as tie
+
+map-in-requires : tie.Need-map-in-requires
+map-in-requires c κs = search needs
+
+body-in-requires : tie.Need-body-in-requires
+body-in-requires c κs = search needs
+
+value-at-requires : tie.Need-value-at-requires
+value-at-requires c κs = search needs
+
+text-answer-requires : tie.Need-text-answer-requires
+text-answer-requires c κs = search needs
+
+returns : tie.Need-returns
+returns c =
+    let v = c .before in
+    let b = v .before in
+    simp (c .text-answer .ensures, v .value-at .ensures, b .body-in .ensures, b .before .map-in .ensures)
+
+pub characters-at-spec : {M : Type 1} → statement M
+characters-at-spec =
+    tie.close
+    (tie.spec map-in-requires body-in-requires value-at-requires text-answer-requires returns)

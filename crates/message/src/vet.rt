@@ -1,0 +1,77 @@
+// The checks that reader and writer share, in their order: 5 to 10.
+use crate::frame::Header;
+use crate::refusal::Refusal;
+use fields::sets::Place;
+use fields::sets::lowest_missing;
+use fields::sets::lowest_unknown;
+use fields::walk::Walked;
+use fields::walk::walk;
+use wire::text::takes_text;
+ghost use mathlib.Core.Path.{_≡_};
+ghost use Rattle.message.specs.Vet.{goodCompId, goodHeader, vetFields, vet};
+
+// Nothing is refused, and the body's plain form has so many bytes; or the refusal.
+pub enum Vetted {
+    Good(usize),
+    Refused(Refusal),
+}
+
+// A Comp ID is a text of 1 to 11 characters.
+pub fn is_comp_id(comp: &[u8]) -> bool
+    ensures { λ r. ⌜ r ≡ goodCompId (now (comp .entry)) ⌝ }
+{
+    if comp.len() == 0 {
+        return false;
+    }
+    takes_text(12, comp)
+}
+
+fn is_header(header: Header, comp: &[u8]) -> bool
+    ensures { λ r. ⌜ r ≡ goodHeader header (now (comp .entry)) ⌝ }
+{
+    if header.number == 0 {
+        return false;
+    }
+    if 1 < header.possdup {
+        return false;
+    }
+    if 1 < header.possresend {
+        return false;
+    }
+    is_comp_id(comp)
+}
+
+// The map and the body of a message of a known type: 7 to 10.
+fn vet_fields(kind: u8, map: &[u8], body: &[u8]) -> Vetted
+    ensures { λ r. ⌜ r ≡ vetFields kind (now (map .entry)) (now (body .entry)) ⌝ }
+{
+    if let Place::At(p) = lowest_unknown(kind, map) {
+        return Vetted::Refused(Refusal::UnknownPosition(p));
+    }
+    if let Place::At(p) = lowest_missing(kind, map) {
+        return Vetted::Refused(Refusal::MissingField(p));
+    }
+    match walk(kind, map, body) {
+        Walked::Done { left, plain } => {
+            if left == 0 {
+                Vetted::Good(plain)
+            } else {
+                Vetted::Refused(Refusal::LeftOver(left))
+            }
+        }
+        Walked::BadAt(p) => Vetted::Refused(Refusal::BadField(p)),
+    }
+}
+
+pub fn vet(header: Header, comp: &[u8], map: &[u8], body: &[u8]) -> Vetted
+    ensures { λ r. ⌜ r ≡ vet header (now (comp .entry)) (now (map .entry)) (now (body .entry)) ⌝ }
+{
+    let kind = header.kind;
+    if 10 < kind {
+        return Vetted::Refused(Refusal::UnknownType);
+    }
+    if !is_header(header, comp) {
+        return Vetted::Refused(Refusal::BadHeader);
+    }
+    vet_fields(kind, map, body)
+}
