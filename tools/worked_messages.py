@@ -236,4 +236,5 @@ def main():
     (folder / "stdout").write_text("".join(must(line) + "\n" for line in lines if not line.startswith("#")))
 
 
-main()
+if __name__ == "__main__":
+    main()

@@ -1,8 +1,13 @@
-// Runs the reader over the worked messages on standard input, a line each, and prints what it gives:
+// Runs the reader and the session over the worked lines on standard input, and prints what each gives:
 //
-//     read HEX            the header values and the Comp ID, or the refusal; of a report also filled and open shares
-//     number POSITION HEX the number or Decimal at a position
-//     text POSITION HEX   the text at a position
+//     read HEX             the header values and the Comp ID, or the refusal; of a report also filled and open shares
+//     number POSITION HEX  the number or Decimal at a position
+//     text POSITION HEX    the text at a position
+//     fresh COMP           a fresh day
+//     saved E O COMP       a day that goes on
+//     connect PASSWORD     Connect
+//     drop                 the line drops
+//     up HEX               one step
 //
 // A line that begins with # is passed over.
 use libc::STDIN_FILENO;
@@ -16,6 +21,13 @@ use message::read::Reading;
 use message::read::comp_id;
 use message::read::read;
 use message::refusal::Refusal;
+use session::day::Connected;
+use session::day::Made;
+use session::state::Row;
+use session::state::Send;
+use session::state::Session;
+use session::state::State;
+use session::state::Stepped;
 use tables::dictionary::Field;
 use wire::decimal::put_decimal;
 use wire::number::read_u64;
@@ -166,22 +178,27 @@ fn before(s: &[u8], c: u8) -> usize {
     i
 }
 
-// A position in decimal digits, kept below 1,000.
-fn position(s: &[u8]) -> usize {
-    let mut p: usize = 0;
+// A number of at most ten decimal digits.
+fn number(s: &[u8]) -> u64 {
+    let mut n: u64 = 0;
     let mut i = 0;
     while i < s.len() {
         let d = digit(s[i]);
         if 9 < d {
-            return p;
+            return n;
         }
-        if 99 < p {
-            return p;
+        if 999999999 < n {
+            return n;
         }
-        p = p * 10 + d as usize;
+        n = n * 10 + d as u64;
         i += 1;
     }
-    p
+    n
+}
+
+// The same, which the worked lines keep within 32 bits.
+fn small(s: &[u8]) -> u32 {
+    (number(s) % 4294967296) as u32
 }
 
 fn run_read(words: &[u8]) {
@@ -196,7 +213,7 @@ fn run_number(words: &[u8]) {
     let b = decode(from(from(words, j), 1));
     let n = b.count;
     let all = b.all;
-    say_asked(ask_number(front(&all, n), position(front(words, j))));
+    say_asked(ask_number(front(&all, n), number(front(words, j)) as usize));
 }
 
 fn run_text(words: &[u8]) {
@@ -204,30 +221,188 @@ fn run_text(words: &[u8]) {
     let b = decode(from(from(words, j), 1));
     let n = b.count;
     let all = b.all;
-    say_text(front(&all, n), position(front(words, j)));
+    say_text(front(&all, n), number(front(words, j)) as usize);
 }
 
-// One line, without its end: a word, where it asks a position that position, and the bytes.
-fn run(line: &[u8]) {
+fn say_send(send: Send) {
+    match send {
+        Send::Nothing => say(b"none"),
+        Send::Heartbeat(n, id) => {
+            say(b"heartbeat ");
+            say_pair(n, id as u32);
+        }
+        Send::Logout(n) => {
+            say(b"logout ");
+            say_number(n as u64);
+        }
+        Send::GapFill(n, new) => {
+            say(b"fill ");
+            say_pair(n, new);
+        }
+        Send::ResendRequest(n, start, end) => {
+            say(b"resend ");
+            say_number(n as u64);
+            say(b" ");
+            say_pair(start, end);
+        }
+    }
+}
+
+fn say_pair(a: u32, b: u32) {
+    say_number(a as u64);
+    say(b" ");
+    say_number(b as u64);
+}
+
+fn say_row(row: Row) {
+    match row {
+        Row::Nothing => say(b"none"),
+        Row::Business(n) => {
+            say(b"business ");
+            say_pair(n, n);
+        }
+        Row::Session(n) => {
+            say(b"session ");
+            say_pair(n, n);
+        }
+        Row::Filled(first, last) => {
+            say(b"filled ");
+            say_pair(first, last);
+        }
+        Row::Reset(first, last) => {
+            say(b"reset ");
+            say_pair(first, last);
+        }
+    }
+}
+
+fn say_state(state: State) {
+    match state {
+        State::Down => say(b"Down "),
+        State::Waiting => say(b"Waiting "),
+        State::Live => say(b"Live "),
+    }
+}
+
+// The state, E, O and M.
+fn say_session(s: Session) {
+    let state = s.state;
+    say_state(state);
+    say_pair(s.expected, s.own);
+    say(b" ");
+    say_number(s.ahead as u64);
+}
+
+fn made(m: Made) -> Session {
+    let s = m.session;
+    say(b"code ");
+    say_number(m.code as u64);
+    say(b": ");
+    say_session(s);
+    s
+}
+
+fn connected(c: Connected) -> Session {
+    let s = c.session;
+    say(b"code ");
+    say_number(c.code as u64);
+    say(b" logon ");
+    say_pair(c.number, c.next);
+    say(b": ");
+    say_session(s);
+    s
+}
+
+fn stepped(t: Stepped) -> Session {
+    let s = t.session;
+    let answer = t.answer;
+    let first = answer.first;
+    let second = answer.second;
+    let row = answer.row;
+    say(b"code ");
+    say_number(answer.code as u64);
+    say(b" send ");
+    say_send(first);
+    say(b", ");
+    say_send(second);
+    say(b" row ");
+    say_row(row);
+    say(b": ");
+    say_session(s);
+    s
+}
+
+fn dropped(s: Session) -> Session {
+    let down = s.drop();
+    say_session(down);
+    down
+}
+
+fn run_saved(words: &[u8]) -> Session {
+    let j = before(words, b' ');
+    let rest = from(from(words, j), 1);
+    let k = before(rest, b' ');
+    made(Session::saved(
+        from(from(rest, k), 1),
+        small(front(words, j)),
+        small(front(rest, k)),
+    ))
+}
+
+fn run_step(s: Session, words: &[u8]) -> Session {
+    let b = decode(words);
+    let n = b.count;
+    let all = b.all;
+    stepped(s.step(front(&all, n)))
+}
+
+fn read_line(s: Session, words: &[u8]) -> Session {
+    run_read(words);
+    s
+}
+
+fn number_line(s: Session, words: &[u8]) -> Session {
+    run_number(words);
+    s
+}
+
+fn text_line(s: Session, words: &[u8]) -> Session {
+    run_text(words);
+    s
+}
+
+// One line, without its end, by its first letter: a word, and what goes with it. The session after it.
+fn run(s: Session, line: &[u8]) -> Session {
     if line.len() == 0 {
-        return;
+        return s;
     }
     let word = line[0];
-    let words = from(from(line, before(line, b' ')), 1);
-    match word {
-        b'r' => run_read(words),
-        b'n' => run_number(words),
-        b't' => run_text(words),
-        _ => return,
+    if word == b'#' {
+        return s;
     }
+    let words = from(from(line, before(line, b' ')), 1);
+    let next = match word {
+        b'r' => read_line(s, words),
+        b'n' => number_line(s, words),
+        b't' => text_line(s, words),
+        b'f' => made(Session::fresh(words)),
+        b's' => run_saved(words),
+        b'c' => connected(s.connect(words)),
+        b'd' => dropped(s),
+        b'u' => run_step(s, words),
+        _ => s,
+    };
     say(b"\n");
+    next
 }
 
 fn run_lines(input: &[u8]) {
+    let first = Session::fresh(b"");
+    let mut s = first.session;
     let mut rest = input;
     while 0 < rest.len() {
         let k = before(rest, b'\n');
-        run(front(rest, k));
+        s = run(s, front(rest, k));
         if rest.len() <= k {
             return;
         }

@@ -7,10 +7,16 @@ use Rattle.worked.proofs.run_lines.Statement.{statement}
 use Rattle.worked.proofs.run_lines.Tie as tie
 
 abbrev Inv-loop : tie.InvT-loop
-Inv-loop input rest₀ rest = length rest ≤ length input
+Inv-loop input s₀ rest₀ s rest = length rest ≤ length input
 
 abbrev μ-loop : tie.MeasureT-loop
-μ-loop input rest₀ rest = length rest
+μ-loop input s₀ rest₀ s rest = length rest
+
+slice-aggregate-fresh : tie.Need-slice-aggregate-fresh Inv-loop μ-loop
+slice-aggregate-fresh c = search needs
+
+fresh-requires : tie.Need-fresh-requires Inv-loop μ-loop
+fresh-requires c κs = search needs
 
 loop-holds : tie.Need-loop-holds Inv-loop μ-loop
 loop-holds c = search needs
@@ -54,6 +60,8 @@ run-lines-spec =
     (tie.spec
     Inv-loop
     μ-loop
+    slice-aggregate-fresh
+    fresh-requires
     loop-holds
     before-requires
     front-requires

@@ -1,16 +1,16 @@
--- `worked::position` meets its contract: it ends, and reads and writes within what it was lent. Assumes nothing.
+-- `worked::number` meets its contract: it ends, and the number stays small. Assumes nothing.
 use mathlib.Core.Path.{_≡_}
 use Prim.Native.Nat.{_≤_, _-_}
 use lib.ListN.{length}
 use borrow.Author.Needs.{needs}
-use Rattle.worked.proofs.position.Statement.{statement}
-use Rattle.worked.proofs.position.Tie as tie
+use Rattle.worked.proofs.number.Statement.{statement}
+use Rattle.worked.proofs.number.Tie as tie
 
 abbrev Inv-loop : tie.InvT-loop
-Inv-loop s p₀ i₀ p i = p ≤ 999
+Inv-loop s n₀ i₀ n i = n ≤ 9999999999
 
 abbrev μ-loop : tie.MeasureT-loop
-μ-loop s p₀ i₀ p i = length s - i
+μ-loop s n₀ i₀ n i = length s - i
 
 loop-holds : tie.Need-loop-holds Inv-loop μ-loop
 loop-holds c = search needs
@@ -27,14 +27,14 @@ returns c = search needs
 returns-2 : tie.Need-returns-2 Inv-loop μ-loop
 returns-2 c = search needs
 
-mul-p : tie.Need-mul-p Inv-loop μ-loop
-mul-p c = search needs
+mul-n : tie.Need-mul-n Inv-loop μ-loop
+mul-n c = search needs
 
-cast-p : tie.Need-cast-p Inv-loop μ-loop
-cast-p c = search needs
+cast-n : tie.Need-cast-n Inv-loop μ-loop
+cast-n c = search needs
 
-add-p : tie.Need-add-p Inv-loop μ-loop
-add-p c = search needs
+add-n : tie.Need-add-n Inv-loop μ-loop
+add-n c = search needs
 
 add-i : tie.Need-add-i Inv-loop μ-loop
 add-i c = search needs
@@ -48,8 +48,8 @@ loop-again c = search needs
 returns-3 : tie.Need-returns-3 Inv-loop μ-loop
 returns-3 c = search needs
 
-pub position-spec : {M : Type 1} → statement M
-position-spec =
+pub number-spec : {M : Type 1} → statement M
+number-spec =
     tie.close
     (tie.spec
     Inv-loop
@@ -59,9 +59,9 @@ position-spec =
     digit-requires
     returns
     returns-2
-    mul-p
-    cast-p
-    add-p
+    mul-n
+    cast-n
+    add-n
     add-i
     loop-less
     loop-again

@@ -1,0 +1,4 @@
+pub mod State
+pub mod Arrival
+pub mod Rules
+pub mod Day
