@@ -80,7 +80,8 @@ use Rattle.tables.specs.declared.dictionary.Field.the-variants.{
 }
 use Rattle.names.specs.Lines.{lineLength, lineOf}
 use Rattle.tables.specs.Dictionary.{rowNumber}
-use Rattle.names.specs.Names.{spelled, nameOf}
+use Rattle.wire.specs.Spelled.{spelled}
+use Rattle.names.specs.Names.{nameOf}
 
 -- the fields' names, a line end behind each
 unfoldable pub lines : List Field → List ℕ

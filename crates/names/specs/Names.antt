@@ -1,8 +1,7 @@
 -- The fields' names and row numbers, as 004 section 8.2 writes them.
 use Prim.Native.Nat.{ℕ}
-use Prim.Native.Char.{code}
-use Prim.Native.String.{String, [] as none, _∷_ as _then_}
 use mathlib.Core.List.{List, [], _∷_, _++_}
+use Rattle.wire.specs.Spelled.{spelled}
 use Rattle.tables.specs.declared.dictionary.Field.{Field}
 use Rattle.tables.specs.declared.dictionary.Field.the-variants.{
   AggressorIndicator,
@@ -79,11 +78,6 @@ use Rattle.tables.specs.declared.dictionary.Field.the-variants.{
   TradeHandlingInstructions,
   TypeOfService,
 }
-
--- the bytes of an ASCII text
-unfoldable pub spelled : String → List ℕ
-spelled none = []
-spelled (c then s) = code c ∷ spelled s
 
 -- the dash of Time In Force – TIF is U+2013: three bytes in UTF-8
 unfoldable pub nameOf : Field → List ℕ

@@ -1,1 +1,4 @@
 pub mod ArrivalLaws
+pub mod Effect
+pub mod KindLaws
+pub mod SessionLaws

@@ -5,7 +5,8 @@ use mathlib.Core.List.{List}
 use borrow.Author.Needs.{needs}
 use Rattle.wire.specs.Laying.{laid, laidAnswer}
 use Rattle.names.specs.Lines.{lineOf}
-use Rattle.names.specs.Names.{spelled, nameOf}
+use Rattle.wire.specs.Spelled.{spelled}
+use Rattle.names.specs.Names.{nameOf}
 use Rattle.names.proofs.NameLaws.{lines, text, name-stands}
 use Rattle.names.proofs.put_name.Statement.{statement}
 use Rattle.names.proofs.put_name.Tie as tie
