@@ -2,7 +2,7 @@
 -- division is one step of the register, and the message's bits are the number of its bytes.
 use mathlib.Core.Path.{_≡_, refl, sym, ap, ap₂, _∙_}
 use Prim.Native.Nat.{ℕ, zero, suc, _+_, _*_, _/_, _%_, _^_, _<_, _≤_}
-use native.Mathlib.Nat.{add-comm, div-lt-iff-lt-mul, pow-suc, zero-lt-suc, mul-one, mul-assoc, add-zero}
+use native.Mathlib.Nat.{add-comm, div-lt-iff-lt-mul, pow-suc, pow-zero, zero-lt-suc, mul-one, mul-assoc, add-zero}
 use native.Mathlib.Omega.{arith}
 use mathlib.Core.Bool.{Bool, true, false, not}
 use mathlib.Core.List.{List, [], _∷_, _++_, map, append-assoc, append-nil}
@@ -165,6 +165,23 @@ division-register bs h =
     (number-divided n d (omega arith)
     ∙ ap (steps n) (number-complemented m (omega arith) ∙ ap (λ (x : ℕ). bitXor x 0xFFFFFFFF) (number-message bs h) ∙ xor-comm (number bs) 0xFFFFFFFF)
     ∙ sym (register-number bs 0xFFFFFFFF h))
+
+-- n bits are a number below 2 ^ n
+bits-below : (d : List Bool) → numberOfBits d < 2 ^ length d
+unfolding numberOfBits
+bits-below [] = simp pow-zero (omega arith)
+bits-below (b ∷ d) = rw (number-cons, pow-suc) (omega (arith, bits-below d, bit-lt b))
+
+-- and so the sum fits its four bytes
+pub sum-below : (bs : List ℕ) → crc32c bs < 256 ^ 4
+unfolding crc32c
+sum-below bs =
+    let n = 8 * length bs in
+    let m = messageBits bs ++ replicate 32 false in
+    let d = complemented 32 m in
+    let lr : length (divided n d) ≡ 32 = length-divided n 32 d (length-complemented m ∙ length-message bs (replicate 32 false)) in
+    let l : length (map not (divided n d)) ≡ 32 = ap length (all-complemented 32 (divided n d) lr) ∙ length-complemented (divided n d) ∙ lr in
+    rw l at (bits-below (map not (divided n d)))
 
 -- what a loop over a slice comes to at its end
 pub reached-sum : {s : List ℕ} {c i : ℕ} → Bytes s → Reached s c i → length s ≤ i → bitXor c 0xFFFFFFFF ≡ crc32c s

@@ -1,6 +1,6 @@
 -- The walk over a body's fields (004 section 6.2.1; document 01: fields are walked in rising position and the first bad one is reported).
 use Prim.Native.Nat.{ℕ, zero, suc, _+_, min}
-use mathlib.Core.Bool.{Bool, cond}
+use mathlib.Core.Bool.{cond}
 use mathlib.Core.List.{List, [], _∷_}
 use lib.ListN.{length, drop}
 use Rattle.wire.specs.Map.{present}

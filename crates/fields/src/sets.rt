@@ -84,7 +84,7 @@ pub fn position_of(kind: u8, field: Field) -> usize
     ensures { λ r. ⌜ r ≡ positionOf kind field ⌝ }
 {
     let span = span_of(kind);
-    let mut p: usize = 0;
+    let mut p = 0usize;
     while p < span {
         if is_row_of(field, row_of(kind, p)) {
             return p;

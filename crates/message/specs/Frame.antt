@@ -1,6 +1,6 @@
 -- The frame (004 sections 7.4, 7.5 and 8.1; document 01, "The frame"): where each part of a message stands, and the reader's checks 2, 1, 3, 1, 4.
 use Prim.Native.Nat.{ℕ, _-_}
-use mathlib.Core.Bool.{Bool, true, false, cond}
+use mathlib.Core.Bool.{cond}
 use mathlib.Core.List.{List, []}
 use lib.Dec.{eqb, leb}
 use lib.ListN.{length, take, drop, getD}

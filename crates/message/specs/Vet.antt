@@ -1,6 +1,6 @@
 -- The checks that reader and writer share, in their order (document 01, refusals 5 to 10).
 use Prim.Native.Nat.{ℕ}
-use mathlib.Core.Bool.{Bool, true, false, cond}
+use mathlib.Core.Bool.{Bool, false, cond}
 use mathlib.Core.List.{List}
 use lib.Dec.{eqb, leb}
 use lib.ListN.{length}
@@ -12,7 +12,6 @@ use Rattle.fields.specs.Sets.{lowestUnknown, lowestMissing}
 use Rattle.fields.specs.Walk.{walkOf}
 use Rattle.wire.specs.Text.{takes}
 use Rattle.message.specs.declared.frame.Header.{Header}
-use Rattle.message.specs.declared.refusal.Refusal.{Refusal}
 use Rattle.message.specs.declared.refusal.Refusal.the-variants.{UnknownType, BadHeader, UnknownPosition, MissingField, BadField, LeftOver}
 use Rattle.message.specs.declared.vet.Vetted.{Vetted}
 use Rattle.message.specs.declared.vet.Vetted.the-variants.{Good, Refused}

@@ -1,6 +1,6 @@
 -- The fields' names and row numbers, as 004 section 8.2 writes them.
 use Prim.Native.Nat.{ℕ}
-use mathlib.Core.List.{List, [], _∷_, _++_}
+use mathlib.Core.List.{List, _∷_, _++_}
 use Rattle.wire.specs.Spelled.{spelled}
 use Rattle.tables.specs.declared.dictionary.Field.{Field}
 use Rattle.tables.specs.declared.dictionary.Field.the-variants.{

@@ -1,5 +1,5 @@
 -- `worked::before` meets its contract: it ends, and reads and writes within what it was lent. Assumes nothing.
-use Prim.Native.Nat.{_≤_, _-_}
+use Prim.Native.Nat.{_-_}
 use lib.ListN.{length}
 use borrow.Author.Needs.{needs}
 use Rattle.worked.proofs.before.Statement.{statement}

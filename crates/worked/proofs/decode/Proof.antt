@@ -1,6 +1,5 @@
 -- `worked::decode` meets its contract: it ends, and stores within its array. Assumes nothing.
-use mathlib.Core.Path.{_≡_}
-use Prim.Native.Nat.{_≤_, _-_}
+use Prim.Native.Nat.{_-_}
 use lib.ListN.{length}
 use borrow.Author.Needs.{needs}
 use Rattle.worked.proofs.decode.Statement.{statement}

@@ -1,5 +1,4 @@
 -- `worked::number` meets its contract: it ends, and the number stays small. Assumes nothing.
-use mathlib.Core.Path.{_≡_}
 use Prim.Native.Nat.{_≤_, _-_}
 use lib.ListN.{length}
 use borrow.Author.Needs.{needs}

@@ -1,6 +1,5 @@
 -- `worked::run_lines` meets its contract: it ends, since each line leaves fewer bytes. Assumes nothing.
-use mathlib.Core.Path.{_≡_}
-use Prim.Native.Nat.{_≤_, _-_}
+use Prim.Native.Nat.{_≤_}
 use lib.ListN.{length}
 use borrow.Author.Needs.{needs}
 use Rattle.worked.proofs.run_lines.Statement.{statement}

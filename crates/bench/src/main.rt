@@ -1,0 +1,282 @@
+// The test bench's resend plan. It reads two lines from standard input, as
+//
+//     start=1 end=0
+//     01001
+//
+// Start and End, and for numbers 1, 2, .. a digit that says whether each is business (1) or session (0). It prints a line for each part of
+// the plan, business n=2 or gapfill first=3 new=5; or refused 40; or refused 11 and how many pairs the plan needs, where they are more than
+// the 32,768 that it holds. Anything else is answered on standard error.
+ghost use Prim.Native.Nat.{_*_, _≤_};
+ghost use lib.ListN.{length};
+use libc::STDERR_FILENO;
+use libc::STDIN_FILENO;
+use libc::STDOUT_FILENO;
+use plan::Planned;
+use plan::plan;
+
+fn say(text: &[u8]) {
+    io::write_all(STDOUT_FILENO, text);
+}
+
+fn say_number(n: u64) {
+    io::print_decimal(STDOUT_FILENO, n);
+}
+
+fn usage() {
+    io::write_all(
+        STDERR_FILENO,
+        b"bench: standard input must be two lines: start=S end=E, with S and E from 0 to 4294967295, and then at most 65536 digits, 1 for a business number and 0 for a session number\n",
+    );
+}
+
+fn too_long() {
+    io::write_all(
+        STDERR_FILENO,
+        b"bench: standard input is too long: a list has at most 65536 digits, and nothing follows its line\n",
+    );
+}
+
+fn unread() {
+    io::write_all(STDERR_FILENO, b"bench: standard input cannot be read\n");
+}
+
+// A byte of standard input.
+enum Next {
+    Byte(u8),
+    End,
+    Failed,
+}
+
+fn next_byte() -> Next {
+    let mut one = [0u8; 1];
+    let got = libc::read(STDIN_FILENO, &mut one);
+    if got < 0 {
+        return Next::Failed;
+    }
+    if got == 0 {
+        return Next::End;
+    }
+    Next::Byte(one[0])
+}
+
+// A line of standard input, without its end: so many bytes, with the line's end behind them or the input's.
+enum Line {
+    Whole(usize),
+    Last(usize),
+    TooLong,
+    Failed,
+}
+
+fn read_line(line: &mut [u8]) -> Line {
+    let mut i = 0;
+    while i <= line.len() {
+        match next_byte() {
+            Next::Byte(b) => {
+                if b == b'\n' {
+                    return Line::Whole(i);
+                }
+                if i == line.len() {
+                    return Line::TooLong;
+                }
+                line[i] = b;
+                i += 1;
+            }
+            Next::End => return Line::Last(i),
+            Next::Failed => return Line::Failed,
+        }
+    }
+    Line::TooLong
+}
+
+fn front(s: &[u8], n: usize) -> &[u8] {
+    if n <= s.len() { &s[..n] } else { s }
+}
+
+fn from(s: &[u8], n: usize) -> &[u8] {
+    if n <= s.len() { &s[n..] } else { s }
+}
+
+fn begins(s: &[u8], word: &[u8]) -> bool {
+    let mut i = 0;
+    while i < word.len() {
+        if s.len() <= i {
+            return false;
+        }
+        if s[i] != word[i] {
+            return false;
+        }
+        i += 1;
+    }
+    true
+}
+
+// The decimal digits at the front: how many, and their value, where 4,294,967,296 stands for anything past 32 bits.
+struct Numeral {
+    value: u64,
+    digits: usize,
+}
+
+fn with_digit(value: u64, digit: u8) -> u64 {
+    if 4294967295 < value {
+        return 4294967296;
+    }
+    let v = value * 10 + digit as u64;
+    if 4294967295 < v { 4294967296 } else { v }
+}
+
+fn number(s: &[u8]) -> Numeral {
+    let mut value: u64 = 0;
+    let mut digits = 0;
+    while digits < s.len() {
+        let b = s[digits];
+        if b < b'0' || b'9' < b {
+            break;
+        }
+        value = with_digit(value, b - b'0');
+        digits += 1;
+    }
+    Numeral { value, digits }
+}
+
+// The first line.
+enum Request {
+    Plan(u32, u32),
+    Bad,
+}
+
+fn asked(line: &[u8]) -> Request {
+    if !begins(line, b"start=") {
+        return Request::Bad;
+    }
+    let first = from(line, 6);
+    let s = number(first);
+    let rest = from(first, s.digits);
+    if !begins(rest, b" end=") {
+        return Request::Bad;
+    }
+    let second = from(rest, 5);
+    let e = number(second);
+    if e.digits < second.len() {
+        return Request::Bad;
+    }
+    if s.digits == 0 || e.digits == 0 {
+        return Request::Bad;
+    }
+    if 4294967295 < s.value {
+        return Request::Bad;
+    }
+    if 4294967295 < e.value {
+        return Request::Bad;
+    }
+    Request::Plan(s.value as u32, e.value as u32)
+}
+
+// The first n bytes, digits 0 and 1, become the numbers 0 and 1; false where there is another byte.
+fn mark(list: &mut [u8], n: usize) -> bool {
+    let mut i = 0;
+    while i < n {
+        if list.len() <= i {
+            return false;
+        }
+        let b = list[i];
+        if b < b'0' || b'1' < b {
+            return false;
+        }
+        list[i] = b - b'0';
+        i += 1;
+    }
+    true
+}
+
+fn say_part(first: u32, new: u32) {
+    if new == 0 {
+        say(b"business n=");
+        say_number(first as u64);
+    } else {
+        say(b"gapfill first=");
+        say_number(first as u64);
+        say(b" new=");
+        say_number(new as u64);
+    }
+    say(b"\n");
+}
+
+fn say_parts(pairs: &[u32], count: usize)
+    requires { ⌜ 2 * count ≤ length (now pairs) ⌝ }
+{
+    let mut i = 0;
+    while i < count {
+        say_part(pairs[2 * i], pairs[2 * i + 1]);
+        i += 1;
+    }
+}
+
+fn say_refused(planned: Planned) {
+    say(b"refused ");
+    say_number(planned.refusal() as u64);
+}
+
+fn say_plan(list: &[u8], s: u32, e: u32, pairs: &mut [u32]) {
+    let planned = plan(list, s, e, pairs);
+    match planned {
+        Planned::Wrote(n) => say_parts(pairs, n),
+        Planned::BadRequest => {
+            say_refused(planned);
+            say(b"\n");
+        }
+        Planned::NoRoom(n) => {
+            say_refused(planned);
+            say(b" pairs=");
+            say_number(n as u64);
+            say(b"\n");
+        }
+    }
+}
+
+// The list is in the first n bytes.
+fn answer(list: &mut [u8], n: usize, s: u32, e: u32) {
+    let mut pairs = [0u32; 65536];
+    if mark(list, n) {
+        say_plan(front(list, n), s, e, &mut pairs);
+    } else {
+        usage();
+    }
+}
+
+// The list's line has ended, and nothing may follow it.
+fn answer_last(list: &mut [u8], n: usize, s: u32, e: u32) {
+    match next_byte() {
+        Next::Byte(_) => too_long(),
+        Next::End => answer(list, n, s, e),
+        Next::Failed => unread(),
+    }
+}
+
+fn run(s: u32, e: u32) {
+    let mut list = [0u8; 65536];
+    match read_line(&mut list) {
+        Line::Whole(n) => answer_last(&mut list, n, s, e),
+        Line::Last(n) => {
+            if n == 0 {
+                usage();
+            } else {
+                answer(&mut list, n, s, e);
+            }
+        }
+        Line::TooLong => too_long(),
+        Line::Failed => unread(),
+    }
+}
+
+fn main() {
+    let mut line = [0u8; 64];
+    match read_line(&mut line) {
+        Line::Whole(n) => match asked(front(&line, n)) {
+            Request::Plan(s, e) => run(s, e),
+            Request::Bad => usage(),
+        },
+        Line::Last(_) => usage(),
+        Line::TooLong => usage(),
+        Line::Failed => unread(),
+    }
+}

@@ -1,0 +1,11 @@
+pub mod BufferLaws
+pub mod FieldsLaws
+pub mod FillLaws
+pub mod GoodLaws
+pub mod HeadLaws
+pub mod PartsLaws
+pub mod PutLaws
+pub mod RoundTrip
+pub mod SameLaws
+pub mod SaysLaws
+pub mod WriteLaws
