@@ -160,10 +160,27 @@ def ask(s, p, want):
     return SHEET[kind][p][1], values[p]
 
 
+def plain(s):
+    """The message written again: zeros after a fixed text's null, nothing after a variable text's."""
+    kind, number, dup, resend, _, comp, values = read(s)
+    fields = {}
+    for p, value in values.items():
+        _, sort, width, _ = SHEET[kind][p]
+        if sort == "fixed":
+            fields[p] = fixed(value, width)
+        elif sort == "variable":
+            fields[p] = variable(value)
+        else:
+            fields[p] = value.to_bytes(width, "little", signed=sort == "decimal")
+    return message(kind, fields, number, dup, resend, fixed(comp, 12))
+
+
 def must(line):
     word, *more = line.split(" ")
     s = bytes.fromhex(more[-1])
     try:
+        if word == "plain":
+            return plain(s).hex()
         if word == "read":
             kind, number, dup, resend, length, comp, values = read(s)
             said = f"type {kind} number {number} possdup {dup} possresend {resend} length {length} comp {comp.decode()}"
@@ -189,11 +206,13 @@ def cases():
     report = message(10, needed(10))
     for kind in SHEET:
         yield from one(f"type {kind}, the required fields alone", message(kind, needed(kind)))
-        yield from one(f"type {kind}, every field", message(kind, whole(kind), number=7, dup=1, resend=1))
+        yield from one(f"type {kind}, every field", message(kind, whole(kind), number=7, dup=1, resend=1), "plain")
     yield from one("a Resend Request's numbers", message(2, needed(2)), "number 0", "number 1")
     yield from one("a reset, Gap Fill absent", message(4, needed(4)), "number 0", "number 1")
     yield from one("a reset, Gap Fill 'N'", message(4, {0: b"N", 1: bytes([9, 0, 0, 0])}), "number 0", "number 1")
-    yield from one("bytes after the nulls are discarded", message(9, {**whole(9), 1: variable(b"why", b"\xff\0x"), 5: fixed(b"R", 21, b"zz")}), "text 1", "text 5")
+    yield from one("bytes after the nulls are discarded", message(9, {**whole(9), 1: variable(b"why", b"\xff\0x"), 5: fixed(b"R", 21, b"zz")}), "text 1", "text 5", "plain")
+    yield from one("and so in the Comp ID", heart := message(0, {}, comp=fixed(b"CO9", 12, b"x\xff")), "plain")
+    yield from one("a refused message has no plain form", heart[:-1], "plain")
     yield from one("empty texts", message(6, {0: variable(b"")}), "text 0")
     yield from one("a report's Decimals, texts and numbers", message(10, whole(10)), "number 12", "number 13", "text 0", "text 6", "text 19", "number 24", "number 25", "number 37")
     yield from one("questions refused: 7, 13, 14", report, "number 10", "number 255", "text 26", "number 12", "text 0", "number 9", "text 24")

@@ -3,6 +3,7 @@
 //     read HEX             the header values and the Comp ID, or the refusal; of a report also filled and open shares
 //     number POSITION HEX  the number or Decimal at a position
 //     text POSITION HEX    the text at a position
+//     plain HEX            the message written again: its plain form
 //     fresh COMP           a fresh day
 //     saved E O COMP       a day that goes on
 //     connect PASSWORD     Connect
@@ -18,7 +19,9 @@ use message::ask::ask_number_of;
 use message::ask::ask_text;
 use message::ask::text;
 use message::read::Reading;
+use message::read::body;
 use message::read::comp_id;
+use message::read::map;
 use message::read::read;
 use message::refusal::Refusal;
 use session::day::Connected;
@@ -31,6 +34,8 @@ use session::state::Stepped;
 use tables::dictionary::Field;
 use wire::decimal::put_decimal;
 use wire::number::read_u64;
+use writer::write::Written;
+use writer::write::write;
 
 fn say(text: &[u8]) {
     io::write_all(STDOUT_FILENO, text);
@@ -208,6 +213,54 @@ fn run_read(words: &[u8]) {
     say_reading(front(&all, n));
 }
 
+fn say_byte(b: u8) {
+    io::print_hex(STDOUT_FILENO, b as u64, 2);
+}
+
+fn say_hex(s: &[u8]) {
+    let mut i = 0;
+    while i < s.len() {
+        say_byte(s[i]);
+        i += 1;
+    }
+}
+
+// The first thirty-two bytes of s, with zeros for those that are not there.
+fn map_bytes(s: &[u8]) -> [u8; 32] {
+    let mut m = [0u8; 32];
+    let mut i: usize = 0;
+    while i < 32 {
+        if s.len() <= i {
+            break;
+        }
+        m[i] = s[i];
+        i += 1;
+    }
+    m
+}
+
+// The message at the front of s, read and written again.
+fn say_plain(s: &[u8]) {
+    match read(s) {
+        Reading::Good { header, length: _ } => {
+            let mut d = [0u8; 2048];
+            let m = map_bytes(map(s));
+            match write(&mut d, header, comp_id(s), &m, body(s)) {
+                Written::Wrote(n) => say_hex(front(&d, n)),
+                Written::Refused(refusal) => say_refusal(refusal),
+            }
+        }
+        Reading::Refused(refusal) => say_refusal(refusal),
+    }
+}
+
+fn run_plain(words: &[u8]) {
+    let b = decode(words);
+    let n = b.count;
+    let all = b.all;
+    say_plain(front(&all, n));
+}
+
 fn run_number(words: &[u8]) {
     let j = before(words, b' ');
     let b = decode(from(from(words, j), 1));
@@ -361,6 +414,11 @@ fn read_line(s: Session, words: &[u8]) -> Session {
     s
 }
 
+fn plain_line(s: Session, words: &[u8]) -> Session {
+    run_plain(words);
+    s
+}
+
 fn number_line(s: Session, words: &[u8]) -> Session {
     run_number(words);
     s
@@ -383,6 +441,7 @@ fn run(s: Session, line: &[u8]) -> Session {
     let words = from(from(line, before(line, b' ')), 1);
     let next = match word {
         b'r' => read_line(s, words),
+        b'p' => plain_line(s, words),
         b'n' => number_line(s, words),
         b't' => text_line(s, words),
         b'f' => made(Session::fresh(words)),
