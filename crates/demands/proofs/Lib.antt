@@ -4,3 +4,4 @@ pub mod FairStep
 pub mod First
 pub mod Second
 pub mod WorkedDay
+pub mod Figures
