@@ -2,7 +2,7 @@
 // "The frame").
 ghost use mathlib.Core.Path.{_≡_};
 ghost use Prim.Native.Nat.{_<_};
-ghost use Rattle.wire.specs.Map.{bitAt, nextBit, present};
+ghost use Rattle.wire.specs.Map.{bitAt, nextBit, present, withPosition};
 
 // Whether bit j of a map byte is set, the highest bit being bit 0.
 fn bit_at(byte: u8, j: u8) -> bool
@@ -36,4 +36,20 @@ pub fn next_bit(byte: u8, from: u8) -> u8
         j += 1;
     }
     8
+}
+
+// Sets position p of a map. A position past the map's end changes nothing.
+pub fn set_present(map: &mut [u8], p: usize)
+    ensures { λ _. ⌜ now (map .exit) ≡ withPosition p (now (map .entry)) ⌝ }
+{
+    let i = p / 8;
+    if map.len() <= i {
+        return;
+    }
+    let byte = map[i];
+    let j = (p % 8) as u8;
+    if bit_at(byte, j) {
+        return;
+    }
+    map[i] = byte + (128 >> j);
 }

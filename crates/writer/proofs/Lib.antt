@@ -9,3 +9,4 @@ pub mod RoundTrip
 pub mod SameLaws
 pub mod SaysLaws
 pub mod WriteLaws
+pub mod SendLaws
