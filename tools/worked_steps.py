@@ -384,4 +384,5 @@ def main():
     (folder / "stdout").write_text("\n".join(wanted + t.wanted) + "\n")
 
 
-main()
+if __name__ == "__main__":
+    main()

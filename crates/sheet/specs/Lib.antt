@@ -1,0 +1,4 @@
+pub mod Capped
+pub mod Line
+pub mod Print
+pub mod Sheet

@@ -1,0 +1,165 @@
+// The printed lines, laid at the front of a lent buffer.
+use session::state::Row;
+use session::state::Send;
+use session::state::Stepped;
+use wire::laying::Laid;
+use wire::laying::put_bytes;
+ghost use mathlib.Core.Path.{_≡_};
+ghost use mathlib.Core.List.{[], _∷_, _++_};
+ghost use Prim.Native.Nat.{_+_, _%_, _≤_};
+ghost use lib.ListN.{length, take, drop};
+ghost use Rattle.wire.specs.Spelled.{spelled};
+ghost use Rattle.wire.specs.Laying.{laid, laidAnswer};
+ghost use Rattle.session.specs.State.{firstOf, lastOf};
+ghost use Rattle.sheet.specs.Print.{decimal, rowName, sendName, printed, printedBad};
+
+// A number's digits: they stand in text from `from` on.
+struct Spelt {
+    text: [u8; 20],
+    from: usize,
+}
+
+fn digit(v: u64) -> u8
+    ensures { λ r. ⌜ r ≡ 48 + v % 10 ⌝ }
+{
+    48 + (v % 10) as u8
+}
+
+fn spell(n: u64) -> Spelt
+    ensures { λ r. ⌜ (drop (r .from) (r .text) ≡ decimal n) × (r .from ≤ 20) × (length (r .text) ≡ 20) ⌝ }
+{
+    let mut text = [0u8; 20];
+    let mut i: usize = 20;
+    let mut v = n;
+    while 0 < i {
+        i -= 1;
+        text[i] = digit(v);
+        if v < 10 {
+            return Spelt { text, from: i };
+        }
+        v = v / 10;
+    }
+    Spelt { text, from: i }
+}
+
+// The bytes w behind the first `at` of d; where the next begin.
+fn put(d: &mut [u8], at: usize, w: &[u8]) -> usize
+    requires { ⌜ at + length (now w) ≤ length (now d) ⌝ }
+    ensures { λ r. ⌜ (r ≡ at + length (now (w .entry))) × (take r (now (d .exit)) ≡ take at (now (d .entry)) ++ now (w .entry)) ⌝ }
+{
+    let mut i = 0;
+    while i < w.len() {
+        d[at + i] = w[i];
+        i += 1;
+    }
+    at + i
+}
+
+// A label and a number behind the first `at` bytes of d.
+fn put_field(d: &mut [u8], at: usize, label: &[u8], n: u64) -> usize
+    requires { ⌜ at + length (now label) + 20 ≤ length (now d) ⌝ }
+    ensures { λ r. ⌜ (r ≤ at + length (now (label .entry)) + 20) × (take r (now (d .exit)) ≡ (take at (now (d .entry)) ++ now (label .entry)) ++ decimal n) ⌝ }
+{
+    let p = put(d, at, label);
+    let s = spell(n);
+    let from = s.from;
+    let text = s.text;
+    put(d, p, &text[from..])
+}
+
+// The row's name at the front of d.
+fn put_row(d: &mut [u8], row: Row) -> usize
+    requires { ⌜ 12 ≤ length (now d) ⌝ }
+    ensures { λ r. ⌜ (r ≤ 12) × (take r (now (d .exit)) ≡ spelled "row=" ++ rowName row) ⌝ }
+{
+    match row {
+        Row::Nothing => put(d, 0, b"row=none"),
+        Row::Business(_) => put(d, 0, b"row=business"),
+        Row::Session(_) => put(d, 0, b"row=session"),
+        Row::Filled(_, _) => put(d, 0, b"row=filled"),
+        Row::Reset(_, _) => put(d, 0, b"row=reset"),
+    }
+}
+
+fn first_of(row: Row) -> u32
+    ensures { λ r. ⌜ r ≡ firstOf row ⌝ }
+{
+    match row {
+        Row::Nothing => 0,
+        Row::Business(n) => n,
+        Row::Session(n) => n,
+        Row::Filled(first, _) => first,
+        Row::Reset(first, _) => first,
+    }
+}
+
+fn last_of(row: Row) -> u32
+    ensures { λ r. ⌜ r ≡ lastOf row ⌝ }
+{
+    match row {
+        Row::Nothing => 0,
+        Row::Business(n) => n,
+        Row::Session(n) => n,
+        Row::Filled(_, last) => last,
+        Row::Reset(_, last) => last,
+    }
+}
+
+// What is sent, and the line end, behind the first `at` bytes of d.
+fn put_out(d: &mut [u8], at: usize, send: Send) -> usize
+    requires { ⌜ at + 12 ≤ length (now d) ⌝ }
+    ensures { λ r. ⌜ (r ≤ at + 12) × (take r (now (d .exit)) ≡ take at (now (d .entry)) ++ (spelled " out=" ++ (sendName send ++ 10 ∷ []))) ⌝ }
+{
+    match send {
+        Send::Nothing => put(d, at, b" out=none\n"),
+        Send::Heartbeat(_, _) => put(d, at, b" out=none\n"),
+        Send::Logout(_) => put(d, at, b" out=logout\n"),
+        Send::GapFill(_, _) => put(d, at, b" out=none\n"),
+        Send::ResendRequest(_, _, _) => put(d, at, b" out=resend\n"),
+    }
+}
+
+// The line of a step at the front of d: its length.
+fn line(d: &mut [u8], t: Stepped) -> usize
+    requires { ⌜ 128 ≤ length (now d) ⌝ }
+    ensures { λ r. ⌜ (r ≤ 128) × (take r (now (d .exit)) ≡ printed t) ⌝ }
+{
+    let session = t.session;
+    let answer = t.answer;
+    let row = answer.row;
+    let send = answer.first;
+    let first = first_of(row);
+    let last = last_of(row);
+    let p = put_row(d, row);
+    let p = put_field(d, p, b" first=", first as u64);
+    let p = put_field(d, p, b" last=", last as u64);
+    let p = put_field(d, p, b" next=", session.expected as u64);
+    put_out(d, p, send)
+}
+
+// The line of a bad line, by its number: its length.
+fn bad_line(d: &mut [u8], k: u64) -> usize
+    requires { ⌜ 128 ≤ length (now d) ⌝ }
+    ensures { λ r. ⌜ (r ≤ 128) × (take r (now (d .exit)) ≡ printedBad k) ⌝ }
+{
+    let p = put_field(d, 0, b"bad=", k);
+    put(d, p, b"\n")
+}
+
+// The line of a step at the front of a lent buffer.
+pub fn put_printed(d: &mut [u8], t: Stepped) -> Laid
+    ensures { λ r. ⌜ (r ≡ laidAnswer (printed t) (now (d .entry))) × (now (d .exit) ≡ laid (printed t) (now (d .entry))) ⌝ }
+{
+    let mut text = [0u8; 128];
+    let n = line(&mut text, t);
+    put_bytes(d, &text[..n])
+}
+
+// The line of a bad line at the front of a lent buffer.
+pub fn put_bad(d: &mut [u8], k: u64) -> Laid
+    ensures { λ r. ⌜ (r ≡ laidAnswer (printedBad k) (now (d .entry))) × (now (d .exit) ≡ laid (printedBad k) (now (d .entry))) ⌝ }
+{
+    let mut text = [0u8; 128];
+    let n = bad_line(&mut text, k);
+    put_bytes(d, &text[..n])
+}

@@ -1,0 +1,152 @@
+// Every whole line of lent bytes, stepped and printed.
+use crate::line::Kind;
+use crate::line::Line;
+use crate::line::Said;
+use crate::line::read_line;
+use crate::print::put_bad;
+use crate::print::put_printed;
+use session::arrival::Content;
+use session::arrival::Message;
+use session::state::Session;
+use session::state::State;
+ghost use mathlib.Core.Path.{_≡_};
+ghost use mathlib.Core.List.{_++_};
+ghost use Prim.Native.Nat.{_≤_};
+ghost use lib.ListN.{length, drop};
+ghost use Rattle.sheet.specs.Sheet.{contentOf, messageOf, lineLength, nextCount, sheetOf};
+ghost use Rattle.sheet.specs.Sheet.{begun as begunSession};
+
+// Why the lines ended: no whole line is left, the buffer has no room for the next printed line, or a line was bad.
+pub enum End {
+    NoLine,
+    NoRoom,
+    BadLine,
+}
+
+// The session after the lines that were taken, the number of the next line, the bytes used and written, and the end.
+pub struct Taken {
+    pub session: Session,
+    pub count: u64,
+    pub used: usize,
+    pub written: usize,
+    pub end: End,
+}
+
+// The session that daysheet begins with: Waiting, with E = 1 and O = 2.
+pub fn begun() -> Session
+    ensures { λ r. ⌜ r ≡ begunSession ⌝ }
+{
+    let ours = [0u8; 12];
+    Session {
+        state: State::Waiting,
+        ours,
+        expected: 1,
+        own: 2,
+        ahead: 0,
+    }
+}
+
+fn content_of(kind: Kind, new: u32) -> Content
+    ensures { λ r. ⌜ r ≡ contentOf kind new ⌝ }
+{
+    match kind {
+        Kind::Logon => Content::Logon(2),
+        Kind::Business => Content::Business,
+        Kind::GapFill => Content::GapFill(new),
+        Kind::Reset => Content::Reset(new),
+    }
+}
+
+fn message_of(line: Line) -> Message
+    ensures { λ r. ⌜ r ≡ messageOf line ⌝ }
+{
+    let kind = line.kind;
+    let content = content_of(kind, line.new);
+    Message {
+        number: line.n,
+        possdup: line.dup == 1,
+        ours: true,
+        content,
+    }
+}
+
+// How many bytes stand before the first line end, or all where there is none.
+fn line_length(s: &[u8]) -> usize
+    ensures { λ r. ⌜ (r ≡ lineLength (now (s .entry))) × (r ≤ length (now (s .entry))) ⌝ }
+{
+    let mut i = 0;
+    while i < s.len() {
+        if s[i] == 10 {
+            return i;
+        }
+        i += 1;
+    }
+    i
+}
+
+fn next_count(k: u64) -> u64
+    ensures { λ r. ⌜ r ≡ nextCount k ⌝ }
+{
+    if k < 18446744073709551615 { k + 1 } else { k }
+}
+
+// Takes whole lines from s, line number `count` first, and prints them at the front of d.
+pub fn take_lines(session: Session, count: u64, s: &[u8], d: &mut [u8]) -> Taken
+    ensures { λ r. ⌜ (r ≡ sheetOf (length (now (d .entry))) session count (now (s .entry)) .taken) × (now (d .exit) ≡ sheetOf (length (now (d .entry))) session count (now (s .entry)) .text ++ drop (length (sheetOf (length (now (d .entry))) session count (now (s .entry)) .text)) (now (d .entry))) ⌝ }
+{
+    let mut day = session;
+    let mut k = count;
+    let mut used = 0;
+    let mut written = 0;
+    loop {
+        let rest = &s[used..];
+        let n = line_length(rest);
+        if n == rest.len() {
+            return Taken {
+                session: day,
+                count: k,
+                used,
+                written,
+                end: End::NoLine,
+            };
+        }
+        match read_line(&rest[..n]) {
+            Said::Line(line) => {
+                let stepped = day.ruled(message_of(line));
+                let laid = put_printed(&mut d[written..], stepped);
+                if laid.refusal() != 0 {
+                    return Taken {
+                        session: day,
+                        count: k,
+                        used,
+                        written,
+                        end: End::NoRoom,
+                    };
+                }
+                day = stepped.session;
+                k = next_count(k);
+                used += n + 1;
+                written += laid.besides();
+            }
+            Said::Bad => {
+                let laid = put_bad(&mut d[written..], k);
+                if laid.refusal() != 0 {
+                    return Taken {
+                        session: day,
+                        count: k,
+                        used,
+                        written,
+                        end: End::NoRoom,
+                    };
+                }
+                return Taken {
+                    session: day,
+                    count: k,
+                    used: used + (n + 1),
+                    written: written + laid.besides(),
+                    end: End::BadLine,
+                };
+            }
+        }
+    }
+}
