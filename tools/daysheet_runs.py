@@ -1,7 +1,8 @@
 #!/usr/bin/env python3
-"""Runs the program daysheet on further inputs and compares what it prints with a daysheet of its own.
+"""Runs the program daysheet on further stored inputs and compares what it prints with what is stored.
 
     rt check daysheet && tools/daysheet_runs.py
+    tools/daysheet_runs.py --write      writes runs/daysheet anew: NAME.in, and NAME.out by a daysheet of its own
 
 Each kind of bad line, a gap asked for and filled, a stop, lines after the session is Down, the last line with no newline, and
 10,000 lines, which is more than the program's buffer holds.
@@ -65,14 +66,24 @@ def cases():
 
 
 def main():
-    wrong = 0
-    runs = list(cases())
-    for name, text in runs:
+    runs = {f"{count:02}_" + re.sub(r"\W+", "_", name).strip("_"): text for count, (name, text) in enumerate(cases(), 1)}
+    folder, wrong = ROOT / "runs/daysheet", 0
+    if sys.argv[1:] == ["--write"]:
+        folder.mkdir(parents=True, exist_ok=True)
+        for name, text in runs.items():
+            (folder / f"{name}.in").write_text(text)
+            (folder / f"{name}.out").write_text(sheet(text))
+        return
+    stored = {file.stem: file.read_text() for file in folder.glob("*.in")}
+    if stored != runs:
+        sys.exit("daysheet: runs/daysheet does not hold the runs of this file: write it anew with --write")
+    for name, text in stored.items():
+        want = (folder / f"{name}.out").read_text()
         got = subprocess.run([ROOT / "tools/run", "daysheet"], input=text.encode(), capture_output=True, check=True).stdout.decode()
-        if got != sheet(text):
+        if not got == want == sheet(text):
             wrong += 1
-            print(f"daysheet: {name}: it printed\n{got[:2000]}and should have printed\n{sheet(text)[:2000]}")
-    print(f"daysheet: {len(runs) - wrong} of {len(runs)} further runs are as they should be")
+            print(f"daysheet: {name}: it printed\n{got[:2000]}and should have printed\n{want[:2000]}")
+    print(f"daysheet: {len(stored) - wrong} of {len(stored)} further runs are as they should be")
     sys.exit(1 if wrong else 0)
 
 

@@ -140,7 +140,7 @@ fn is_ours(ours: &[u8; 12], s: &[u8]) -> bool
     is_same(fixed_part(ours, 12), comp_id_in(s))
 }
 
-// The message at the front of s: one checksum pass and one walk, and one look more at the fields that the rules name.
+// The message at the front of s: one checksum pass and one walk, and a look more for each field that the rules name.
 pub fn arrival_of(ours: &[u8; 12], s: &[u8]) -> Arrival
     ensures { λ r. ⌜ r ≡ arrivalOf (now (ours .entry)) (now (s .entry)) ⌝ }
 {
