@@ -129,15 +129,15 @@ fn digit(c: u8) -> u8 {
     }
 }
 
-// Bytes, of which the first `count` are meant.
+// Bytes, of which the first `count` are meant: room for the longest message and some bytes behind it.
 struct Bytes {
-    all: [u8; 2048],
+    all: [u8; 4608],
     count: usize,
 }
 
 // The bytes that hexadecimal digits stand for.
 fn decode(line: &[u8]) -> Bytes {
-    let mut all = [0u8; 2048];
+    let mut all = [0u8; 4608];
     let mut i = 0;
     let mut count: usize = 0;
     while i < line.len() {
@@ -154,7 +154,7 @@ fn decode(line: &[u8]) -> Bytes {
         if 15 < low {
             break;
         }
-        if 2048 <= count {
+        if 4608 <= count {
             break;
         }
         all[count] = high * 16 + low;
@@ -243,7 +243,7 @@ fn map_bytes(s: &[u8]) -> [u8; 32] {
 fn say_plain(s: &[u8]) {
     match read(s) {
         Reading::Good { header, length: _ } => {
-            let mut d = [0u8; 2048];
+            let mut d = [0u8; 4096];
             let m = map_bytes(map(s));
             match write(&mut d, header, comp_id(s), &m, body(s)) {
                 Written::Wrote(n) => say_hex(front(&d, n)),
