@@ -19,7 +19,7 @@ use Rattle.fields.specs.declared.value.Value.the-variants.{Number}
 use Rattle.fields.specs.Sets.{unknownTo, unknownAt, missingAt, placeOf, lowest, lowestUnknown, lowestMissing, isRowOf, standsAt, positionOf}
 use Rattle.fields.specs.Check.{whole, yesNo, checkSort, checkRow, checkAt}
 use Rattle.fields.specs.Walk.{positions, onward, walkFrom, walkOf, after as afterField, restAfter, restAt}
-use Rattle.fields.specs.Value.{numberValue, sortValue, sortText, fieldValue, fieldText, rowValue, rowText, valueAt, textAt, valueOf}
+use Rattle.fields.specs.Value.{numberValue, sortValue, sortText, fieldValue, fieldText, rowValue, rowText, valueIn, textIn, valueAt, textAt, valueOf}
 use Rattle.message.specs.declared.refusal.Refusal.the-variants.{BadSum}
 use Rattle.message.specs.Frame.{partIn, lengthIn, headerIn, compIdIn, mapIn, bodyIn, sumIn, framedBy, framed}
 use Rattle.message.specs.Vet.{goodCompId, goodHeader, vetWalk, vetMissing, vetUnknown, vetFields, vet}
@@ -158,7 +158,7 @@ unfolding bits numberOfBits messageBits polynomial differ less divided complemen
     isKnown isRequired rowAt sortOf widthOf rowNumber unionAt heartbeat sequenceReset logon businessMessageReject tablesOf rowOf
     unknownTo unknownAt missingAt placeOf lowest lowestUnknown lowestMissing isRowOf standsAt positionOf
     whole yesNo checkSort checkRow checkAt positions onward walkFrom walkOf
-    afterField restAfter restAt numberValue sortValue sortText fieldValue fieldText rowValue rowText valueAt textAt valueOf
+    afterField restAfter restAt numberValue sortValue sortText fieldValue fieldText rowValue rowText valueIn textIn valueAt textAt valueOf
     partIn lengthIn headerIn compIdIn mapIn bodyIn sumIn framedBy framed
     goodCompId goodHeader vetWalk vetMissing vetUnknown vetFields vet readVetted readWhole readFramed readOf
     upTo isYes sequenceResetContent contentOf fieldsAt contentIn saidBy said bytesOf logonBytes businessBytes heartbeatBytes fillBytes logonSaid businessSaid

@@ -1,4 +1,6 @@
 pub mod CheckLaws
+pub mod LeftLaws
+pub mod MarkLaws
 pub mod PlainLaws
 pub mod PositionLaws
 pub mod SetsLaws

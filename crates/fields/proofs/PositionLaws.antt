@@ -4,8 +4,8 @@ use mathlib.Core.Path.{_≡_, sym, ap, _∙_}
 use mathlib.Core.Bool.{Bool, true, false, cond}
 use mathlib.Core.List.{List, [], _∷_, _++_}
 use mathlib.Core.Logic.{⊎-elim}
-use Prim.Native.Nat.{ℕ, zero, suc, _+_, _*_, _-_, _≤_, _<_}
-use native.Mathlib.Nat.{eq-or-lt-of-le}
+use Prim.Native.Nat.{ℕ, zero, suc, _+_, _*_, _-_, _≤_, _<_, min}
+use native.Mathlib.Nat.{eq-or-lt-of-le, min-eq-left}
 use native.Mathlib.Numerals.{add-one}
 use native.Mathlib.Omega.{arith}
 use lib.ListN.{length, getD}
@@ -97,3 +97,18 @@ positions-split m (suc a) b p =
     ap (λ (k : ℕ). positions m k p) n
     ∙ split-step (present m p) p (positions m (a + b) (suc p)) (positions m a (suc p)) (positions m b (p + suc a))
     (positions-split m a b (suc p) ∙ ap (λ (q : ℕ). positions m a (suc p) ++ positions m b q) e)
+
+-- the positions before p, and those from p on
+pub positions-at : (m : List ℕ) (n p : ℕ) → p ≤ n → positions m n 0 ≡ positions m p 0 ++ later m n p
+positions-at m n p l =
+    let a : p + (n - p) ≡ n = omega arith in
+    let b : 0 + p ≡ p = omega arith in
+    ap (λ (k : ℕ). positions m k 0) (sym a) ∙ positions-split m p (n - p) 0
+    ∙ ap (λ (q : ℕ). positions m p 0 ++ positions m (n - p) q) b
+
+-- where p is set: those before it, then p, then those after it
+pub around : (m : List ℕ) (n p : ℕ) → p < n → present m p ≡ true → positions m n 0 ≡ positions m (min p n) 0 ++ (p ∷ later m n (p + 1))
+around m n p l here =
+    let c : p ≤ n = omega arith in
+    positions-at m n p c ∙ ap (λ (ps : List ℕ). positions m p 0 ++ ps) (later-set m n p l here)
+    ∙ ap (λ (k : ℕ). positions m k 0 ++ (p ∷ later m n (p + 1))) (sym (min-eq-left c))

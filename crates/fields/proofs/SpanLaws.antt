@@ -2,7 +2,7 @@
 use mathlib.Core.Path.{_≡_, refl}
 use mathlib.Core.Bool.{Bool, true, false, cond}
 use mathlib.Core.List.{List}
-use Prim.Native.Nat.{ℕ, _≤_}
+use Prim.Native.Nat.{ℕ, _≤_, _<_}
 use native.Mathlib.Omega.{arith}
 use lib.Dec.{eqb, leb}
 use borrow.Author.Tests.{leb-true}
@@ -75,3 +75,13 @@ module _ (test : Row → Bool) (p : test UnknownPosition ≡ false) (q : test Un
 pub beyond-required : (kind p : ℕ) → spanOf kind ≤ p → isRequired (rowOf kind p) ≡ false
 unfolding isRequired
 beyond-required kind p h = beyond-none isRequired refl refl kind p h
+
+-- a position that a type knows is one of a map's 256
+pub known-within : (kind p : ℕ) → isKnown (rowOf kind p) ≡ true → p < 256
+known-within kind p known =
+    let far : 256 ≤ p → ⊥ =
+    λ h.
+    let not = beyond-span kind p (omega (arith, span-within kind)) in
+    let z : _≡_ {A = ℕ} 0 1 = cc in
+    omega arith in
+    omega arith

@@ -1,4 +1,5 @@
 pub mod AskLaws
+pub mod FindLaws
 pub mod FrameLaws
 pub mod ReadLaws
 pub mod VetLaws

@@ -11,6 +11,7 @@ use Rattle.message.specs.declared.frame.Framed.{Framed}
 use Rattle.message.specs.declared.frame.Framed.the-variants.{Whole, Refused}
 use Rattle.message.specs.declared.frame.Header.{Header}
 use Rattle.message.specs.declared.refusal.Refusal.the-variants.{Short, BadStart, BadLength, BadSum}
+use Rattle.message.specs.Refusal.{numberOf, besidesOf}
 
 -- the bytes from one place to another; none where the bytes end before
 unfoldable pub partIn : ℕ → ℕ → List ℕ → List ℕ
@@ -63,3 +64,11 @@ framed s =
     (Refused (Short 3)))
     (Refused BadStart))
     (Refused (Short 3))
+
+-- the Length of the message at the front, right sum or not; 0 where 1, 2 or 3 is met
+unfoldable pub lengthBy : Framed → ℕ
+lengthBy (Whole n) = n
+lengthBy (Refused r) = cond (eqb (numberOf r) 4) (besidesOf r) 0
+
+unfoldable pub frontLength : List ℕ → ℕ
+frontLength s = lengthBy (framed s)

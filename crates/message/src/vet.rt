@@ -5,14 +5,25 @@ use fields::sets::Place;
 use fields::sets::lowest_missing;
 use fields::sets::lowest_unknown;
 use fields::walk::Walked;
-use fields::walk::walk;
+use fields::walk::walk_marking;
 use wire::text::takes_text;
 ghost use mathlib.Core.Path.{_≡_};
-ghost use Rattle.message.specs.Vet.{goodCompId, goodHeader, vetFields, vet};
+ghost use Rattle.fields.specs.Walk.{leftAt};
+ghost use Rattle.message.specs.Vet.{goodCompId, goodHeader, vetFields, vet, marking};
 
 // Nothing is refused, and the body's plain form has so many bytes; or the refusal.
 pub enum Vetted {
     Good(usize),
+    Refused(Refusal),
+}
+
+// The same, and how many bytes of the body are left where the fields at two marked positions begin.
+pub enum VettedMarking {
+    Good {
+        plain: usize,
+        first: usize,
+        second: usize,
+    },
     Refused(Refusal),
 }
 
@@ -41,37 +52,63 @@ fn is_header(header: Header, comp: &[u8]) -> bool
     is_comp_id(comp)
 }
 
-// The map and the body of a message of a known type: 7 to 10.
-fn vet_fields(kind: u8, map: &[u8], body: &[u8]) -> Vetted
-    ensures { λ r. ⌜ r ≡ vetFields kind (now (map .entry)) (now (body .entry)) ⌝ }
+// The map and the body of a message of a known type: 7 to 10. One walk, which marks positions p and q.
+fn vet_fields(kind: u8, map: &[u8], body: &[u8], p: usize, q: usize) -> VettedMarking
+    ensures { λ r. ⌜ r ≡ marking (leftAt kind (now (map .entry)) (now (body .entry)) p) (leftAt kind (now (map .entry)) (now (body .entry)) q) (vetFields kind (now (map .entry)) (now (body .entry))) ⌝ }
 {
-    if let Place::At(p) = lowest_unknown(kind, map) {
-        return Vetted::Refused(Refusal::UnknownPosition(p));
+    if let Place::At(unknown) = lowest_unknown(kind, map) {
+        return VettedMarking::Refused(Refusal::UnknownPosition(unknown));
     }
-    if let Place::At(p) = lowest_missing(kind, map) {
-        return Vetted::Refused(Refusal::MissingField(p));
+    if let Place::At(missing) = lowest_missing(kind, map) {
+        return VettedMarking::Refused(Refusal::MissingField(missing));
     }
-    match walk(kind, map, body) {
+    let marked = walk_marking(kind, map, body, p, q);
+    let walked = marked.walked;
+    match walked {
         Walked::Done { left, plain } => {
             if left == 0 {
-                Vetted::Good(plain)
+                VettedMarking::Good {
+                    plain,
+                    first: marked.first,
+                    second: marked.second,
+                }
             } else {
-                Vetted::Refused(Refusal::LeftOver(left))
+                VettedMarking::Refused(Refusal::LeftOver(left))
             }
         }
-        Walked::BadAt(p) => Vetted::Refused(Refusal::BadField(p)),
+        Walked::BadAt(bad) => VettedMarking::Refused(Refusal::BadField(bad)),
     }
+}
+
+pub fn vet_marking(
+    header: Header,
+    comp: &[u8],
+    map: &[u8],
+    body: &[u8],
+    p: usize,
+    q: usize,
+) -> VettedMarking
+    ensures { λ r. ⌜ r ≡ marking (leftAt (header .kind) (now (map .entry)) (now (body .entry)) p) (leftAt (header .kind) (now (map .entry)) (now (body .entry)) q) (vet header (now (comp .entry)) (now (map .entry)) (now (body .entry))) ⌝ }
+{
+    let kind = header.kind;
+    if 10 < kind {
+        return VettedMarking::Refused(Refusal::UnknownType);
+    }
+    if !is_header(header, comp) {
+        return VettedMarking::Refused(Refusal::BadHeader);
+    }
+    vet_fields(kind, map, body, p, q)
 }
 
 pub fn vet(header: Header, comp: &[u8], map: &[u8], body: &[u8]) -> Vetted
     ensures { λ r. ⌜ r ≡ vet header (now (comp .entry)) (now (map .entry)) (now (body .entry)) ⌝ }
 {
-    let kind = header.kind;
-    if 10 < kind {
-        return Vetted::Refused(Refusal::UnknownType);
+    match vet_marking(header, comp, map, body, 256, 256) {
+        VettedMarking::Good {
+            plain,
+            first: _,
+            second: _,
+        } => Vetted::Good(plain),
+        VettedMarking::Refused(refusal) => Vetted::Refused(refusal),
     }
-    if !is_header(header, comp) {
-        return Vetted::Refused(Refusal::BadHeader);
-    }
-    vet_fields(kind, map, body)
 }

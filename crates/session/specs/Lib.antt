@@ -2,3 +2,4 @@ pub mod State
 pub mod Arrival
 pub mod Rules
 pub mod Day
+pub mod Marks

@@ -1,23 +1,14 @@
 -- The printed lines of daysheet (document 01, "Program daysheet").
-use Prim.Native.Nat.{ℕ, zero, suc, _+_, _/_, _%_}
-use mathlib.Core.Bool.{cond}
+use Prim.Native.Nat.{ℕ}
 use mathlib.Core.List.{List, [], _∷_, _++_}
-use lib.Dec.{ltb}
 use Rattle.wire.specs.Spelled.{spelled}
+use Rattle.spelt.specs.Spelt.{numberText}
 use Rattle.session.specs.declared.state.Row.{Row}
 use Rattle.session.specs.declared.state.Row.the-variants as row
 use Rattle.session.specs.declared.state.Send.{Send}
 use Rattle.session.specs.declared.state.Send.the-variants as send
 use Rattle.session.specs.declared.state.Stepped.{Stepped}
 use Rattle.session.specs.State.{firstOf, lastOf}
-
--- a number in decimal digits, the fewest; twenty hold 64 bits
-unfoldable pub digits : ℕ → ℕ → List ℕ
-digits zero n = []
-digits (suc k) n = cond (ltb n 10) ((48 + n) ∷ []) (digits k (n / 10) ++ (48 + n % 10) ∷ [])
-
-unfoldable pub decimal : ℕ → List ℕ
-decimal n = digits 20 n
 
 unfoldable pub rowName : Row → List ℕ
 rowName row.Nothing = spelled "none"
@@ -38,11 +29,11 @@ sendName (send.ResendRequest n start end) = spelled "resend"
 unfoldable pub printed : Stepped → List ℕ
 printed t =
     spelled "row=" ++ (rowName (t .answer .row) ++ (
-    spelled " first=" ++ (decimal (firstOf (t .answer .row)) ++ (
-    spelled " last=" ++ (decimal (lastOf (t .answer .row)) ++ (
-    spelled " next=" ++ (decimal (t .session .expected) ++ (
+    spelled " first=" ++ (numberText (firstOf (t .answer .row)) ++ (
+    spelled " last=" ++ (numberText (lastOf (t .answer .row)) ++ (
+    spelled " next=" ++ (numberText (t .session .expected) ++ (
     spelled " out=" ++ (sendName (t .answer .first) ++ 10 ∷ [])))))))))
 
 -- a bad line, by its number from 1
 unfoldable pub printedBad : ℕ → List ℕ
-printedBad k = spelled "bad=" ++ (decimal k ++ 10 ∷ [])
+printedBad k = spelled "bad=" ++ (numberText k ++ 10 ∷ [])

@@ -2,45 +2,18 @@
 use session::state::Row;
 use session::state::Send;
 use session::state::Stepped;
+use spelt::put_number;
 use wire::laying::Laid;
 use wire::laying::put_bytes;
 ghost use mathlib.Core.Path.{_≡_};
 ghost use mathlib.Core.List.{[], _∷_, _++_};
-ghost use Prim.Native.Nat.{_+_, _%_, _≤_};
-ghost use lib.ListN.{length, take, drop};
+ghost use Prim.Native.Nat.{_+_, _≤_};
+ghost use lib.ListN.{length, take};
 ghost use Rattle.wire.specs.Spelled.{spelled};
 ghost use Rattle.wire.specs.Laying.{laid, laidAnswer};
+ghost use Rattle.spelt.specs.Spelt.{numberText};
 ghost use Rattle.session.specs.State.{firstOf, lastOf};
-ghost use Rattle.sheet.specs.Print.{decimal, rowName, sendName, printed, printedBad};
-
-// A number's digits: they stand in text from `from` on.
-struct Spelt {
-    text: [u8; 20],
-    from: usize,
-}
-
-fn digit(v: u64) -> u8
-    ensures { λ r. ⌜ r ≡ 48 + v % 10 ⌝ }
-{
-    48 + (v % 10) as u8
-}
-
-fn spell(n: u64) -> Spelt
-    ensures { λ r. ⌜ (drop (r .from) (r .text) ≡ decimal n) × (r .from ≤ 20) × (length (r .text) ≡ 20) ⌝ }
-{
-    let mut text = [0u8; 20];
-    let mut i: usize = 20;
-    let mut v = n;
-    while 0 < i {
-        i -= 1;
-        text[i] = digit(v);
-        if v < 10 {
-            return Spelt { text, from: i };
-        }
-        v = v / 10;
-    }
-    Spelt { text, from: i }
-}
+ghost use Rattle.sheet.specs.Print.{rowName, sendName, printed, printedBad};
 
 // The bytes w behind the first `at` of d; where the next begin.
 fn put(d: &mut [u8], at: usize, w: &[u8]) -> usize
@@ -58,13 +31,11 @@ fn put(d: &mut [u8], at: usize, w: &[u8]) -> usize
 // A label and a number behind the first `at` bytes of d.
 fn put_field(d: &mut [u8], at: usize, label: &[u8], n: u64) -> usize
     requires { ⌜ at + length (now label) + 20 ≤ length (now d) ⌝ }
-    ensures { λ r. ⌜ (r ≤ at + length (now (label .entry)) + 20) × (take r (now (d .exit)) ≡ (take at (now (d .entry)) ++ now (label .entry)) ++ decimal n) ⌝ }
+    ensures { λ r. ⌜ (r ≤ at + length (now (label .entry)) + 20) × (take r (now (d .exit)) ≡ (take at (now (d .entry)) ++ now (label .entry)) ++ numberText n) ⌝ }
 {
     let p = put(d, at, label);
-    let s = spell(n);
-    let from = s.from;
-    let text = s.text;
-    put(d, p, &text[from..])
+    let laid = put_number(&mut d[p..], n);
+    p + laid.besides()
 }
 
 // The row's name at the front of d.

@@ -9,8 +9,6 @@ use mathlib.Core.List.{List, [], _∷_, _++_, append-assoc}
 use lib.ListN.{length, drop, length-drop}
 use lib.Seq.{drop-nil}
 use Rattle.tables.specs.declared.dictionary.Field.{Field}
-use Rattle.tables.specs.declared.table.Row.{Row}
-use Rattle.tables.specs.declared.table.Row.the-variants as row
 use Rattle.tables.specs.Dictionary.{sortOf}
 use Rattle.tables.specs.Tables.{rowOf}
 use Rattle.wire.specs.Map.{present}
@@ -20,11 +18,12 @@ use Rattle.fields.specs.declared.check.Checked.the-variants.{Good, Bad}
 use Rattle.fields.specs.declared.walk.Walked.the-variants.{Done}
 use Rattle.fields.specs.Check.{checkAt}
 use Rattle.fields.specs.Plain.{plainSort}
-use Rattle.fields.specs.Value.{sortValue, sortText, fieldValue, fieldText, rowValue, rowText, valueAt, textAt}
+use Rattle.fields.specs.Value.{sortValue, sortText, valueIn, valueAt, textIn, textAt}
 use Rattle.fields.specs.Walk.{positions, walkFrom, walkOf, after, restAfter, restAt}
-use Rattle.fields.proofs.CheckLaws.{Names, required, optional, names-check, checkAt-within, checkAt-good}
+use Rattle.fields.proofs.CheckLaws.{Names, names-check, checkAt-within, checkAt-good}
 use Rattle.fields.proofs.PlainLaws.{PlainField, plain-field, plain-by-values}
 use Rattle.fields.proofs.PositionLaws.{later, later-set, later-clear, later-end, positions-split}
+use Rattle.fields.proofs.ValueLaws.{row-value, row-text}
 use Rattle.fields.proofs.WalkLaws.{own-fields, walk-first}
 use Rattle.fields.proofs.WidthLaws.{width-most, number-most}
 use Rattle.message.proofs.AskLaws.{named-below, value-here, text-here, Stands, walked-good}
@@ -82,38 +81,16 @@ module _ (kind : ℕ) (m body : List ℕ) (left plain : ℕ) (e : walkOf kind m 
       text-in-plain : sortText (sortOf f) (restAt kind m (plainFields kind m body ++ r) p) ≡ sortText (sortOf f) (restAt kind m body p)
       text-in-plain = ap (sortText (sortOf f)) by-sort ∙ field-laws .same-text (behind-in-plain r)
 
--- a row's value depends on what its field's sort makes of the bytes, and on nothing where the map has the position clear or the row names no field
-row-value : (row : Row) (here : Bool) (s s′ : List ℕ)
-    → ((f : Field) → Names row f → here ≡ true → sortValue (sortOf f) s ≡ sortValue (sortOf f) s′) → rowValue row here s ≡ rowValue row here s′
-unfolding rowValue fieldValue
-row-value (row.Required f) true s s′ e = e f required refl
-row-value (row.Required f) false s s′ e = refl
-row-value (row.Optional f) true s s′ e = e f optional refl
-row-value (row.Optional f) false s s′ e = refl
-row-value row.UnknownPosition here s s′ e = refl
-row-value row.UnknownType here s s′ e = refl
-
--- and so does its text
-row-text : (row : Row) (here : Bool) (s s′ : List ℕ)
-    → ((f : Field) → Names row f → here ≡ true → sortText (sortOf f) s ≡ sortText (sortOf f) s′) → rowText row here s ≡ rowText row here s′
-unfolding rowText fieldText
-row-text (row.Required f) true s s′ e = e f required refl
-row-text (row.Required f) false s s′ e = refl
-row-text (row.Optional f) true s s′ e = e f optional refl
-row-text (row.Optional f) false s s′ e = refl
-row-text row.UnknownPosition here s s′ e = refl
-row-text row.UnknownType here s s′ e = refl
-
 -- the plain form says the same as the body, whatever stands behind it
 module _ (kind : ℕ) (m body : List ℕ) (left plain : ℕ) (e : walkOf kind m body ≡ Done left plain) (r : List ℕ) (p : ℕ) where
   pub same-value : valueAt kind m (plainFields kind m body ++ r) p ≡ valueAt kind m body p
-  unfolding valueAt
+  unfolding valueAt valueIn
   same-value =
       row-value (rowOf kind p) (present m p) (restAt kind m (plainFields kind m body ++ r) p) (restAt kind m body p)
       (λ f n here. value-in-plain kind m body left plain e p (named-below kind p f n) here f n r)
 
   pub same-text : textAt kind m (plainFields kind m body ++ r) p ≡ textAt kind m body p
-  unfolding textAt
+  unfolding textAt textIn
   same-text =
       row-text (rowOf kind p) (present m p) (restAt kind m (plainFields kind m body ++ r) p) (restAt kind m body p)
       (λ f n here. text-in-plain kind m body left plain e p (named-below kind p f n) here f n r)

@@ -4,7 +4,8 @@ use Prim.Native.Nat.{ℕ}
 use native.Mathlib.Omega.{arith}
 use mathlib.Core.List.{List, [], _∷_, _++_, append-assoc}
 use Rattle.wire.specs.Spelled.{spelled}
-use Rattle.sheet.specs.Print.{decimal, printedBad}
+use Rattle.spelt.specs.Spelt.{numberText}
+use Rattle.sheet.specs.Print.{printedBad}
 use borrow.Author.Needs.{needs}
 use Rattle.sheet.proofs.print.bad_line.Statement.{statement}
 use Rattle.sheet.proofs.print.bad_line.Tie as tie
@@ -30,7 +31,7 @@ returns c =
     let f = c .before .before .before .before .before .before .before .put-field in
     let p = c .before .before .put in (
       omega (arith, f .ensures .0, p .ensures .0),
-      p .ensures .1 ∙ ap (λ (x : List ℕ). x ++ 10 ∷ []) (f .ensures .1) ∙ append-assoc (spelled "bad=") (decimal (c .before .before .before .before .before .before .before .before .before .before .before .args .k)) (10 ∷ []),
+      p .ensures .1 ∙ ap (λ (x : List ℕ). x ++ 10 ∷ []) (f .ensures .1) ∙ append-assoc (spelled "bad=") (numberText (c .before .before .before .before .before .before .before .before .before .before .before .args .k)) (10 ∷ []),
     )
 
 pub bad-line-spec : {M : Type 1} → statement M

@@ -5,7 +5,8 @@ use native.Mathlib.Omega.{arith}
 use mathlib.Core.List.{List, [], _∷_, _++_}
 use Rattle.wire.specs.Spelled.{spelled}
 use Rattle.session.specs.State.{firstOf, lastOf}
-use Rattle.sheet.specs.Print.{decimal, rowName, sendName, printed}
+use Rattle.spelt.specs.Spelt.{numberText}
+use Rattle.sheet.specs.Print.{rowName, sendName, printed}
 use Rattle.sheet.proofs.PrintLaws.{in-order}
 use borrow.Author.Needs.{needs}
 use Rattle.sheet.proofs.print.line.Statement.{statement}
@@ -67,10 +68,10 @@ returns c =
       omega (arith, n .ensures .0, f .ensures .0, g .ensures .0, h .ensures .0, o .ensures .0),
       o .ensures .1
           ∙ ap (λ (x : List ℕ). x ++ out) (h .ensures .1)
-          ∙ ap (λ (x : List ℕ). ((x ++ spelled " next=") ++ decimal (t .session .expected)) ++ out) (g .ensures .1)
-          ∙ ap₂ (λ (x : List ℕ) (k : ℕ). ((((x ++ spelled " last=") ++ decimal k) ++ spelled " next=") ++ decimal (t .session .expected)) ++ out) (f .ensures .1) (c .before .before .before .before .before .before .before .before .before .before .before .before .before .before .before .before .before .before .before .before .before .before .before .before .last-of .ensures)
-          ∙ ap₂ (λ (x : List ℕ) (k : ℕ). ((((((x ++ spelled " first=") ++ decimal k) ++ spelled " last=") ++ decimal (lastOf row)) ++ spelled " next=") ++ decimal (t .session .expected)) ++ out) (n .ensures .1) (c .before .before .before .before .before .before .before .before .before .before .before .before .before .before .before .before .before .before .before .before .before .before .before .before .before .first-of .ensures)
-          ∙ in-order (spelled "row=") (rowName row) (spelled " first=") (decimal (firstOf row)) (spelled " last=") (decimal (lastOf row)) (spelled " next=") (decimal (t .session .expected)) out,
+          ∙ ap (λ (x : List ℕ). ((x ++ spelled " next=") ++ numberText (t .session .expected)) ++ out) (g .ensures .1)
+          ∙ ap₂ (λ (x : List ℕ) (k : ℕ). ((((x ++ spelled " last=") ++ numberText k) ++ spelled " next=") ++ numberText (t .session .expected)) ++ out) (f .ensures .1) (c .before .before .before .before .before .before .before .before .before .before .before .before .before .before .before .before .before .before .before .before .before .before .before .before .last-of .ensures)
+          ∙ ap₂ (λ (x : List ℕ) (k : ℕ). ((((((x ++ spelled " first=") ++ numberText k) ++ spelled " last=") ++ numberText (lastOf row)) ++ spelled " next=") ++ numberText (t .session .expected)) ++ out) (n .ensures .1) (c .before .before .before .before .before .before .before .before .before .before .before .before .before .before .before .before .before .before .before .before .before .before .before .before .before .first-of .ensures)
+          ∙ in-order (spelled "row=") (rowName row) (spelled " first=") (numberText (firstOf row)) (spelled " last=") (numberText (lastOf row)) (spelled " next=") (numberText (t .session .expected)) out,
     )
 
 pub line-spec : {M : Type 1} → statement M

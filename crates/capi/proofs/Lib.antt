@@ -1,0 +1,3 @@
+pub mod CompIdLaws
+pub mod PartLaws
+pub mod SessionLaws

@@ -1,0 +1,365 @@
+// The session by value: checked on every call, and handed back as it was where no day has such a session.
+use crate::shape::CConnected;
+use crate::shape::CMade;
+use crate::shape::CRow;
+use crate::shape::CSend;
+use crate::shape::CSession;
+use crate::shape::CStepped;
+use crate::shape::CWritten;
+use crate::write::written_shown;
+use crate::write::wrote;
+use message::frame::front_length;
+use message::vet::is_comp_id;
+use session::day::Connected;
+use session::day::Made;
+use session::state::Row;
+use session::state::Send;
+use session::state::Session;
+use session::state::State;
+use session::state::Stepped;
+use wire::text::fixed_part;
+use writer::send::put_gap_fill;
+use writer::send::put_heartbeat_for;
+use writer::send::put_logon;
+use writer::send::put_logout;
+use writer::send::put_resend_request;
+ghost use mathlib.Core.Path.{_≡_};
+ghost use Rattle.capi.specs.Sessions.{stateNumber, stateAt, shownSession, sessionIn, allZero, isPlainCompId, leastOwn, isAhead, isSession, made, shownMade, freshC, savedC, shownConnected, connectC, dropC, toSend, shownSend, shownRow, shownStepped, notStepped, usedBy, stepC, sendBy, sentBy, sendC, sentC, logonC, logonSentC};
+
+// No day has such a session.
+pub const NOT_A_SESSION: u32 = 90;
+// No session gives such a message to send.
+pub const NOT_A_SEND: u32 = 91;
+
+fn state_number(state: State) -> u32
+    ensures { λ r. ⌜ r ≡ stateNumber state ⌝ }
+{
+    match state {
+        State::Down => 0,
+        State::Waiting => 1,
+        State::Live => 2,
+    }
+}
+
+fn state_at(n: u32) -> State
+    ensures { λ r. ⌜ r ≡ stateAt n ⌝ }
+{
+    match n {
+        0 => State::Down,
+        1 => State::Waiting,
+        _ => State::Live,
+    }
+}
+
+fn session_shown(s: Session) -> CSession
+    ensures { λ r. ⌜ r ≡ shownSession s ⌝ }
+{
+    let state = s.state;
+    let ours = s.ours;
+    CSession {
+        state: state_number(state),
+        ours,
+        expected: s.expected,
+        own: s.own,
+        ahead: s.ahead,
+    }
+}
+
+fn session_in(c: CSession) -> Session
+    ensures { λ r. ⌜ r ≡ sessionIn c ⌝ }
+{
+    let ours = c.ours;
+    Session {
+        state: state_at(c.state),
+        ours,
+        expected: c.expected,
+        own: c.own,
+        ahead: c.ahead,
+    }
+}
+
+fn is_all_zero(s: &[u8]) -> bool
+    ensures { λ r. ⌜ r ≡ allZero (now (s .entry)) ⌝ }
+{
+    let mut i = 0;
+    while i < s.len() {
+        if s[i] != 0 {
+            return false;
+        }
+        i += 1;
+    }
+    true
+}
+
+fn is_plain_comp_id(ours: &[u8]) -> bool
+    ensures { λ r. ⌜ r ≡ isPlainCompId (now (ours .entry)) ⌝ }
+{
+    let text = fixed_part(ours, 12);
+    if !is_comp_id(text) {
+        return false;
+    }
+    if ours.len() < text.len() {
+        return true;
+    }
+    is_all_zero(&ours[text.len()..])
+}
+
+fn least_own(state: u32) -> u32
+    ensures { λ r. ⌜ r ≡ leastOwn state ⌝ }
+{
+    if state == 0 { 1 } else { 2 }
+}
+
+fn is_ahead(c: CSession) -> bool
+    ensures { λ r. ⌜ r ≡ isAhead c ⌝ }
+{
+    if c.ahead == 0 {
+        return true;
+    }
+    if c.state != 2 {
+        return false;
+    }
+    if c.ahead < 2 {
+        return false;
+    }
+    if c.ahead < c.expected {
+        return false;
+    }
+    3 <= c.own
+}
+
+// Whether some day has such a session.
+fn is_session(c: CSession) -> bool
+    ensures { λ r. ⌜ r ≡ isSession c ⌝ }
+{
+    let ours = c.ours;
+    if 2 < c.state {
+        return false;
+    }
+    if !is_plain_comp_id(&ours) {
+        return false;
+    }
+    if c.expected == 0 {
+        return false;
+    }
+    if c.own < least_own(c.state) {
+        return false;
+    }
+    is_ahead(c)
+}
+
+fn made(refusal: u32, session: CSession) -> CMade
+    ensures { λ r. ⌜ r ≡ made refusal session ⌝ }
+{
+    CMade { refusal, session }
+}
+
+fn made_shown(m: Made) -> CMade
+    ensures { λ r. ⌜ r ≡ shownMade m ⌝ }
+{
+    let s = m.session;
+    made(m.code, session_shown(s))
+}
+
+// A fresh day.
+pub fn fresh_c(comp: &[u8]) -> CMade
+    ensures { λ r. ⌜ r ≡ freshC (now (comp .entry)) ⌝ }
+{
+    made_shown(Session::fresh(comp))
+}
+
+// A day that goes on from saved E and O.
+pub fn saved_c(comp: &[u8], e: u32, o: u32) -> CMade
+    ensures { λ r. ⌜ r ≡ savedC (now (comp .entry)) e o ⌝ }
+{
+    made_shown(Session::saved(comp, e, o))
+}
+
+fn connected_shown(x: Connected) -> CConnected
+    ensures { λ r. ⌜ r ≡ shownConnected x ⌝ }
+{
+    let s = x.session;
+    CConnected {
+        refusal: x.code,
+        session: session_shown(s),
+        number: x.number,
+        next: x.next,
+    }
+}
+
+// Connect.
+pub fn connect_c(c: CSession, password: &[u8]) -> CConnected
+    ensures { λ r. ⌜ r ≡ connectC c (now (password .entry)) ⌝ }
+{
+    if !is_session(c) {
+        return CConnected {
+            refusal: NOT_A_SESSION,
+            session: c,
+            number: 0,
+            next: 0,
+        };
+    }
+    connected_shown(session_in(c).connect(password))
+}
+
+// The line is gone.
+pub fn drop_c(c: CSession) -> CMade
+    ensures { λ r. ⌜ r ≡ dropC c ⌝ }
+{
+    if !is_session(c) {
+        return made(NOT_A_SESSION, c);
+    }
+    made(0, session_shown(session_in(c).drop()))
+}
+
+fn to_send(kind: u32, number: u32, first: u32, second: u32) -> CSend
+    ensures { λ r. ⌜ r ≡ toSend kind number first second ⌝ }
+{
+    CSend {
+        kind,
+        number,
+        first,
+        second,
+    }
+}
+
+fn send_shown(x: Send) -> CSend
+    ensures { λ r. ⌜ r ≡ shownSend x ⌝ }
+{
+    match x {
+        Send::Nothing => to_send(0, 0, 0, 0),
+        Send::Heartbeat(n, id) => to_send(1, n, id as u32, 0),
+        Send::Logout(n) => to_send(2, n, 0, 0),
+        Send::GapFill(n, new) => to_send(3, n, new, 0),
+        Send::ResendRequest(n, start, end) => to_send(4, n, start, end),
+    }
+}
+
+fn row_shown(row: Row) -> CRow
+    ensures { λ r. ⌜ r ≡ shownRow row ⌝ }
+{
+    match row {
+        Row::Nothing => CRow {
+            kind: 0,
+            first: 0,
+            last: 0,
+        },
+        Row::Business(n) => CRow {
+            kind: 1,
+            first: n,
+            last: n,
+        },
+        Row::Session(n) => CRow {
+            kind: 2,
+            first: n,
+            last: n,
+        },
+        Row::Filled(first, last) => CRow {
+            kind: 3,
+            first,
+            last,
+        },
+        Row::Reset(first, last) => CRow {
+            kind: 4,
+            first,
+            last,
+        },
+    }
+}
+
+fn stepped_shown(x: Stepped, used: usize) -> CStepped
+    ensures { λ r. ⌜ r ≡ shownStepped used x ⌝ }
+{
+    let s = x.session;
+    let answer = x.answer;
+    let first = answer.first;
+    let second = answer.second;
+    let row = answer.row;
+    CStepped {
+        refusal: answer.code,
+        session: session_shown(s),
+        first: send_shown(first),
+        second: send_shown(second),
+        row: row_shown(row),
+        used,
+    }
+}
+
+fn not_stepped(c: CSession) -> CStepped
+    ensures { λ r. ⌜ r ≡ notStepped c ⌝ }
+{
+    CStepped {
+        refusal: NOT_A_SESSION,
+        session: c,
+        first: to_send(0, 0, 0, 0),
+        second: to_send(0, 0, 0, 0),
+        row: row_shown(Row::Nothing),
+        used: 0,
+    }
+}
+
+fn used_by(state: u32, s: &[u8]) -> usize
+    ensures { λ r. ⌜ r ≡ usedBy state (now (s .entry)) ⌝ }
+{
+    if state == 0 {
+        return 0;
+    }
+    front_length(s)
+}
+
+// One step on the message at the front of s.
+pub fn step_c(c: CSession, s: &[u8]) -> CStepped
+    ensures { λ r. ⌜ r ≡ stepC c (now (s .entry)) ⌝ }
+{
+    if !is_session(c) {
+        return not_stepped(c);
+    }
+    stepped_shown(session_in(c).step(s), used_by(c.state, s))
+}
+
+// A Heartbeat's ID has two bytes.
+fn heartbeat_by(d: &mut [u8], x: CSend, comp: &[u8]) -> CWritten
+    requires { ⌜ x .kind ≡ 1 ⌝ }
+    ensures { λ r. ⌜ (r ≡ sendBy x (now (comp .entry)) (now (d .entry))) × (now (d .exit) ≡ sentBy x (now (comp .entry)) (now (d .entry))) ⌝ }
+{
+    if 65535 < x.first {
+        return wrote(NOT_A_SEND, 0, 0);
+    }
+    written_shown(put_heartbeat_for(d, comp, x.number, x.first as u16))
+}
+
+fn send_by(d: &mut [u8], x: CSend, comp: &[u8]) -> CWritten
+    ensures { λ r. ⌜ (r ≡ sendBy x (now (comp .entry)) (now (d .entry))) × (now (d .exit) ≡ sentBy x (now (comp .entry)) (now (d .entry))) ⌝ }
+{
+    let kind = x.kind;
+    match kind {
+        0 => wrote(0, 0, 0),
+        1 => heartbeat_by(d, x, comp),
+        2 => written_shown(put_logout(d, comp, x.number)),
+        3 => written_shown(put_gap_fill(d, comp, x.number, x.first)),
+        4 => written_shown(put_resend_request(d, comp, x.number, x.first, x.second)),
+        _ => wrote(NOT_A_SEND, 0, 0),
+    }
+}
+
+// A message to send, as bytes at the front of d.
+pub fn send_c(d: &mut [u8], c: CSession, x: CSend) -> CWritten
+    ensures { λ r. ⌜ (r ≡ sendC c x (now (d .entry))) × (now (d .exit) ≡ sentC c x (now (d .entry))) ⌝ }
+{
+    if !is_session(c) {
+        return wrote(NOT_A_SESSION, 0, 0);
+    }
+    let ours = c.ours;
+    send_by(d, x, fixed_part(&ours, 12))
+}
+
+// Connect's Logon, as bytes at the front of d.
+pub fn logon_c(d: &mut [u8], c: CSession, number: u32, password: &[u8], next: u32) -> CWritten
+    ensures { λ r. ⌜ (r ≡ logonC c number (now (password .entry)) next (now (d .entry))) × (now (d .exit) ≡ logonSentC c number (now (password .entry)) next (now (d .entry))) ⌝ }
+{
+    if !is_session(c) {
+        return wrote(NOT_A_SESSION, 0, 0);
+    }
+    let ours = c.ours;
+    written_shown(put_logon(d, fixed_part(&ours, 12), number, password, next))
+}

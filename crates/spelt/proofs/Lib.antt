@@ -1,0 +1,4 @@
+pub mod Again
+pub mod AmountLaws
+pub mod BehindLaws
+pub mod DigitLaws

@@ -1,0 +1,120 @@
+/*
+ * A recorder's day over the C interface: connect, follow the bytes of a recorded connection, send what the session asks for,
+ * and dial again when the line drops.
+ *
+ *     day CAPTURE..        a file for each connection, the bytes as the gateway sent them
+ *
+ * Prints a line an account row, of each execution report the order and its filled and open shares, what would be sent, and
+ * what was refused. A real recorder reads a socket in place of the files and writes what is sent to it.
+ */
+#include "featherloom.h"
+
+#include <stdio.h>
+#include <stdlib.h>
+#include <string.h>
+
+static const char COMP_ID[] = "CO99999901";
+static const char PASSWORD[] = "encrypted elsewhere";
+
+static const uint8_t *bytes_of(const char *text) { return (const uint8_t *)text; }
+
+/* A Decimal as its count of hundred-millionths. */
+static void print_decimal(const char *label, const uint8_t *bytes, size_t count, size_t position) {
+    featherloom_value value = featherloom_ask(bytes, count, position);
+    if (value.refusal == FEATHERLOOM_OK && value.sort == FEATHERLOOM_DECIMAL)
+        printf(" %s=%lld", label, (long long)value.decimal);
+    else
+        printf(" %s refused=%u", label, value.refusal);
+}
+
+static void print_report(const uint8_t *bytes, size_t count) {
+    featherloom_part order = featherloom_text(bytes, count, FEATHERLOOM_EXECUTION_REPORT_ORDER_ID);
+    printf("  order=%.*s", (int)order.length, (const char *)bytes + order.offset);
+    print_decimal("filled", bytes, count, FEATHERLOOM_EXECUTION_REPORT_CUMULATIVE_QUANTITY);
+    print_decimal("open", bytes, count, FEATHERLOOM_EXECUTION_REPORT_LEAVES_QUANTITY);
+    printf("\n");
+}
+
+/* Lays a message to send down as bytes, and reads it back: what the gateway would read. */
+static void send_it(featherloom_session session, featherloom_send send) {
+    uint8_t buffer[4096];
+    featherloom_written written = featherloom_put(buffer, sizeof buffer, session, send);
+    if (written.length == 0)
+        return;
+    featherloom_reading reading = featherloom_read(buffer, written.length);
+    printf("  send type=%u number=%u possdup=%u length=%zu refusal=%u\n", reading.kind, reading.number, reading.possdup,
+           reading.length, reading.refusal);
+}
+
+static featherloom_session connect_it(featherloom_session session) {
+    uint8_t buffer[4096];
+    featherloom_connected connected = featherloom_connect(session, bytes_of(PASSWORD), strlen(PASSWORD));
+    if (connected.refusal != FEATHERLOOM_OK) {
+        printf("connect refused=%u\n", connected.refusal);
+        return connected.session;
+    }
+    featherloom_written written = featherloom_put_logon(buffer, sizeof buffer, connected.session, connected.number,
+                                                        bytes_of(PASSWORD), strlen(PASSWORD), connected.next);
+    printf("connect number=%u next=%u length=%zu\n", connected.number, connected.next, written.length);
+    return connected.session;
+}
+
+/* Follows the bytes of one connection until they end or the session is Down. */
+static featherloom_session follow(featherloom_session session, const uint8_t *bytes, size_t count) {
+    static const char *const rows[] = {"none", "business", "session", "filled", "reset"};
+    size_t at = 0;
+    while (session.state != FEATHERLOOM_STATE_DOWN) {
+        featherloom_stepped stepped = featherloom_step(session, bytes + at, count - at);
+        session = stepped.session;
+        if (stepped.refusal != FEATHERLOOM_SHORT || at < count)
+            printf("at=%zu refusal=%u row=%s first=%u last=%u next=%u\n", at, stepped.refusal, rows[stepped.row.kind],
+                   stepped.row.first, stepped.row.last, session.expected);
+        if (stepped.row.kind == FEATHERLOOM_ROW_BUSINESS)
+            print_report(bytes + at, count - at);
+        send_it(session, stepped.first);
+        send_it(session, stepped.second);
+        if (stepped.refusal == FEATHERLOOM_SHORT)
+            return featherloom_drop(session).session; /* no more bytes will come: the line is gone */
+        at += stepped.used;
+    }
+    return session;
+}
+
+/* A capture, in memory of exactly its size, so that a sanitizer sees any step past its end. */
+static uint8_t *load(const char *name, size_t *count) {
+    FILE *file = fopen(name, "rb");
+    if (!file || fseek(file, 0, SEEK_END) != 0)
+        return NULL;
+    long size = ftell(file);
+    rewind(file);
+    uint8_t *bytes = size < 0 ? NULL : malloc(size ? (size_t)size : 1);
+    *count = bytes ? fread(bytes, 1, (size_t)size, file) : 0;
+    fclose(file);
+    return bytes;
+}
+
+int main(int count, char **names) {
+    if (count < 2) {
+        fprintf(stderr, "usage: day CAPTURE..\n");
+        return 2;
+    }
+    featherloom_made made = featherloom_fresh(bytes_of(COMP_ID), strlen(COMP_ID));
+    featherloom_session session = made.session;
+    for (int i = 1; i < count; i++) {
+        size_t size = 0;
+        uint8_t *bytes = load(names[i], &size);
+        if (!bytes) {
+            fprintf(stderr, "day: %s cannot be read\n", names[i]);
+            return 1;
+        }
+        session = follow(connect_it(session), bytes, size);
+        free(bytes);
+    }
+    printf("end state=%u next=%u own=%u ahead=%u\n", session.state, session.expected, session.own, session.ahead);
+
+    /* A session that no day has is refused, and comes back as it was. */
+    session.state = 7;
+    featherloom_made refused = featherloom_drop(session);
+    printf("no session: refusal=%u state=%u\n", refused.refusal, refused.session.state);
+    return refused.refusal == FEATHERLOOM_NOT_A_SESSION ? 0 : 1;
+}

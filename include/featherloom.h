@@ -1,0 +1,353 @@
+/*
+ * Featherloom: a drop copy recorder for HKEX's OCG-C binary protocol.
+ *
+ * Link libfeatherloom.a (`rt staticlib featherloom` writes it, for x86-64 Linux). Every function is proved to meet its
+ * promise for every input: none traps, none reads or writes outside what it is lent, none keeps a pointer, allocates or
+ * blocks, and each refuses bad input itself, with a number. A refusal writes nothing. There is no global state, so calls
+ * from several threads do not disturb each other.
+ *
+ * Lent bytes are a pointer and a length. A length of 0 may come with any pointer, NULL too.
+ * "Document 01" is the rules that Featherloom follows; docs/PROMISES.md says what each function promises.
+ */
+#ifndef FEATHERLOOM_H
+#define FEATHERLOOM_H
+
+#include <stddef.h>
+#include <stdint.h>
+
+#ifdef __cplusplus
+extern "C" {
+#endif
+
+/*
+ * Refusals. `besides` holds what is returned with them; it is 0 where nothing is said here.
+ */
+enum {
+    FEATHERLOOM_OK = 0,
+    FEATHERLOOM_SHORT = 1,            /* the bytes end too early; besides: how many are needed in all */
+    FEATHERLOOM_BAD_START = 2,        /* the first byte is not 2 */
+    FEATHERLOOM_BAD_LENGTH = 3,       /* Length below 58 or above 4,096 */
+    FEATHERLOOM_BAD_SUM = 4,          /* the checksum differs; besides: the Length, to pass the message over */
+    FEATHERLOOM_UNKNOWN_TYPE = 5,     /* a type above 10 */
+    FEATHERLOOM_BAD_HEADER = 6,       /* number 0, a flag above 1, a Comp ID that is bad or empty */
+    FEATHERLOOM_UNKNOWN_POSITION = 7, /* besides: the lowest such position, or the position asked */
+    FEATHERLOOM_MISSING_FIELD = 8,    /* besides: the lowest required position that is clear */
+    FEATHERLOOM_BAD_FIELD = 9,        /* besides: the first bad field's position */
+    FEATHERLOOM_LEFT_OVER = 10,       /* bytes after the last field; besides: how many */
+    FEATHERLOOM_NO_ROOM = 11,         /* besides: the bytes needed; of a plan, `pairs` holds the pairs needed */
+    FEATHERLOOM_TOO_LONG = 12,        /* the written message would have more than 4,096 bytes */
+    FEATHERLOOM_ABSENT = 13,          /* the position asked is known, and clear */
+    FEATHERLOOM_OTHER_SORT = 14,      /* a number asked of a text, or a text of a number */
+    FEATHERLOOM_DOWN = 20,            /* a step on a Down session */
+    FEATHERLOOM_NOT_DOWN = 21,        /* Connect on a session that is up */
+    FEATHERLOOM_NO_NUMBER = 22,       /* our numbers are used up */
+    FEATHERLOOM_BAD_SAVED = 23,       /* a saved number of 0 */
+    FEATHERLOOM_STOP_NUMBER = 30,     /* stopped: a number below E */
+    FEATHERLOOM_STOP_COMP_ID = 31,    /* stopped: not our Comp ID */
+    FEATHERLOOM_STOP_TYPE = 32,       /* stopped: a type out of place */
+    FEATHERLOOM_STOP_NEW = 33,        /* stopped: a New Sequence Number that goes back */
+    FEATHERLOOM_STOP_RESEND = 34,     /* stopped: a bad Resend Request */
+    FEATHERLOOM_STOP_NEXT = 35,       /* stopped: a Next Expected of 0 or above O */
+    FEATHERLOOM_STOP_LAST = 36,       /* stopped: the gateway's numbers are used up */
+    FEATHERLOOM_BAD_REQUEST = 40,     /* a plan's list, Start or End is bad */
+    FEATHERLOOM_NOT_A_SESSION = 90,   /* no day has such a session: it comes back as it was */
+    FEATHERLOOM_NOT_A_SEND = 91       /* no session gives such a message to send */
+};
+
+/*
+ * Positions of the fields, by message type and name (004 sections 7.6, 7.7, 7.8 and 7.11).
+ */
+/* positions: begin */
+#define FEATHERLOOM_HEARTBEAT_REFERENCE_TEST_REQUEST_ID 0
+#define FEATHERLOOM_TEST_REQUEST_TEST_REQUEST_ID 0
+#define FEATHERLOOM_RESEND_REQUEST_START_SEQUENCE 0
+#define FEATHERLOOM_RESEND_REQUEST_END_SEQUENCE 1
+#define FEATHERLOOM_REJECT_MESSAGE_REJECT_CODE 0
+#define FEATHERLOOM_REJECT_REASON 1
+#define FEATHERLOOM_REJECT_REFERENCE_MESSAGE_TYPE 2
+#define FEATHERLOOM_REJECT_REFERENCE_FIELD_NAME 3
+#define FEATHERLOOM_REJECT_REFERENCE_SEQUENCE_NUMBER 4
+#define FEATHERLOOM_REJECT_CLIENT_ORDER_ID 5
+#define FEATHERLOOM_SEQUENCE_RESET_GAP_FILL 0
+#define FEATHERLOOM_SEQUENCE_RESET_NEW_SEQUENCE_NUMBER 1
+#define FEATHERLOOM_LOGON_PASSWORD 0
+#define FEATHERLOOM_LOGON_NEW_PASSWORD 1
+#define FEATHERLOOM_LOGON_NEXT_EXPECTED_MESSAGE_SEQUENCE 2
+#define FEATHERLOOM_LOGON_SESSION_STATUS 3
+#define FEATHERLOOM_LOGON_TEXT 4
+#define FEATHERLOOM_LOGON_TEST_MESSAGE_INDICATOR 5
+#define FEATHERLOOM_LOGOUT_LOGOUT_TEXT 0
+#define FEATHERLOOM_LOGOUT_SESSION_STATUS 1
+#define FEATHERLOOM_LOOKUP_REQUEST_TYPE_OF_SERVICE 0
+#define FEATHERLOOM_LOOKUP_REQUEST_PROTOCOL_TYPE 1
+#define FEATHERLOOM_LOOKUP_RESPONSE_STATUS 0
+#define FEATHERLOOM_LOOKUP_RESPONSE_LOOKUP_REJECT_CODE 1
+#define FEATHERLOOM_LOOKUP_RESPONSE_REASON 2
+#define FEATHERLOOM_LOOKUP_RESPONSE_PRIMARY_IP 3
+#define FEATHERLOOM_LOOKUP_RESPONSE_PRIMARY_PORT 4
+#define FEATHERLOOM_LOOKUP_RESPONSE_SECONDARY_IP 5
+#define FEATHERLOOM_LOOKUP_RESPONSE_SECONDARY_PORT 6
+#define FEATHERLOOM_BUSINESS_REJECT_BUSINESS_REJECT_CODE 0
+#define FEATHERLOOM_BUSINESS_REJECT_REASON 1
+#define FEATHERLOOM_BUSINESS_REJECT_REFERENCE_MESSAGE_TYPE 2
+#define FEATHERLOOM_BUSINESS_REJECT_REFERENCE_FIELD_NAME 3
+#define FEATHERLOOM_BUSINESS_REJECT_REFERENCE_SEQUENCE_NUMBER 4
+#define FEATHERLOOM_BUSINESS_REJECT_BUSINESS_REJECT_REFERENCE_ID 5
+#define FEATHERLOOM_EXECUTION_REPORT_CLIENT_ORDER_ID 0
+#define FEATHERLOOM_EXECUTION_REPORT_SUBMITTING_BROKER_ID 1
+#define FEATHERLOOM_EXECUTION_REPORT_SECURITY_ID 2
+#define FEATHERLOOM_EXECUTION_REPORT_SECURITY_ID_SOURCE 3
+#define FEATHERLOOM_EXECUTION_REPORT_SECURITY_EXCHANGE 4
+#define FEATHERLOOM_EXECUTION_REPORT_BROKER_LOCATION_ID 5
+#define FEATHERLOOM_EXECUTION_REPORT_TRANSACTION_TIME 6
+#define FEATHERLOOM_EXECUTION_REPORT_SIDE 7
+#define FEATHERLOOM_EXECUTION_REPORT_ORIGINAL_CLIENT_ORDER_ID 8
+#define FEATHERLOOM_EXECUTION_REPORT_ORDER_ID 9
+#define FEATHERLOOM_EXECUTION_REPORT_ORDER_TYPE 11
+#define FEATHERLOOM_EXECUTION_REPORT_PRICE 12
+#define FEATHERLOOM_EXECUTION_REPORT_ORDER_QUANTITY 13
+#define FEATHERLOOM_EXECUTION_REPORT_TIME_IN_FORCE_TIF 14
+#define FEATHERLOOM_EXECUTION_REPORT_POSITION_EFFECT 15
+#define FEATHERLOOM_EXECUTION_REPORT_ORDER_RESTRICTIONS 16
+#define FEATHERLOOM_EXECUTION_REPORT_MAX_PRICE_LEVELS 17
+#define FEATHERLOOM_EXECUTION_REPORT_ORDER_CAPACITY 18
+#define FEATHERLOOM_EXECUTION_REPORT_TEXT 19
+#define FEATHERLOOM_EXECUTION_REPORT_REASON 20
+#define FEATHERLOOM_EXECUTION_REPORT_EXECUTION_ID 21
+#define FEATHERLOOM_EXECUTION_REPORT_ORDER_STATUS 22
+#define FEATHERLOOM_EXECUTION_REPORT_EXEC_TYPE 23
+#define FEATHERLOOM_EXECUTION_REPORT_CUMULATIVE_QUANTITY 24
+#define FEATHERLOOM_EXECUTION_REPORT_LEAVES_QUANTITY 25
+#define FEATHERLOOM_EXECUTION_REPORT_LOT_TYPE 27
+#define FEATHERLOOM_EXECUTION_REPORT_EXEC_RESTATEMENT_REASON 28
+#define FEATHERLOOM_EXECUTION_REPORT_MATCH_TYPE 30
+#define FEATHERLOOM_EXECUTION_REPORT_COUNTERPARTY_BROKER_ID 31
+#define FEATHERLOOM_EXECUTION_REPORT_EXECUTION_QUANTITY 32
+#define FEATHERLOOM_EXECUTION_REPORT_EXECUTION_PRICE 33
+#define FEATHERLOOM_EXECUTION_REPORT_REFERENCE_EXECUTION_ID 34
+#define FEATHERLOOM_EXECUTION_REPORT_ORDER_CATEGORY 35
+#define FEATHERLOOM_EXECUTION_REPORT_COPY_MESSAGE_INDICATOR 37
+#define FEATHERLOOM_EXECUTION_REPORT_TRADE_MATCH_ID 38
+#define FEATHERLOOM_EXECUTION_REPORT_EXCHANGE_TRADE_TYPE 39
+#define FEATHERLOOM_EXECUTION_REPORT_AGGRESSOR_INDICATOR 42
+#define FEATHERLOOM_EXECUTION_REPORT_SMP_ID 43
+/* positions: end */
+
+/*
+ * Reading. Only the message at the front of the bytes is looked at.
+ */
+
+/* A good message (refusal 0): its type, number and flags, and how many bytes it has. */
+typedef struct featherloom_reading {
+    uint32_t refusal;
+    uint32_t number;
+    size_t besides;
+    size_t length;
+    uint8_t kind; /* the message type */
+    uint8_t possdup;
+    uint8_t possresend;
+} featherloom_reading;
+
+/* A part of the caller's bytes, from `offset` on; of length 0 on a refusal. */
+typedef struct featherloom_part {
+    uint32_t refusal;
+    size_t besides;
+    size_t offset;
+    size_t length;
+} featherloom_part;
+
+enum { FEATHERLOOM_NUMBER = 1, FEATHERLOOM_DECIMAL = 2 };
+
+/* A number, or a Decimal: a count of hundred-millionths. sort says which; it is 0 on a refusal. */
+typedef struct featherloom_value {
+    uint32_t refusal;
+    uint32_t sort;
+    size_t besides;
+    uint64_t number;
+    int64_t decimal;
+} featherloom_value;
+
+/* The message at the front; refusals 1 to 10. One pass for the checksum and one walk over the fields. */
+featherloom_reading featherloom_read(const uint8_t *bytes, size_t count);
+
+/* The Comp ID's characters, without its null; the presence map; the body. Refusals as for featherloom_read. */
+featherloom_part featherloom_comp_id(const uint8_t *bytes, size_t count);
+featherloom_part featherloom_map(const uint8_t *bytes, size_t count);
+featherloom_part featherloom_body(const uint8_t *bytes, size_t count);
+
+/* The number or Decimal at a position: the reader's refusals, then 7, 13, 14. */
+featherloom_value featherloom_ask(const uint8_t *bytes, size_t count, size_t position);
+
+/* The characters of the text at a position, without its null: the reader's refusals, then 7, 13, 14. */
+featherloom_part featherloom_text(const uint8_t *bytes, size_t count, size_t position);
+
+/* CRC32C (RFC 3720) of the bytes, as it closes every message. */
+uint32_t featherloom_crc32c(const uint8_t *bytes, size_t count);
+
+/*
+ * Writing.
+ */
+
+typedef struct featherloom_header {
+    uint8_t kind;
+    uint8_t possdup;
+    uint8_t possresend;
+    uint32_t number;
+} featherloom_header;
+
+/* How many bytes were written at the front of the buffer. On a refusal the buffer is as it was. */
+typedef struct featherloom_written {
+    uint32_t refusal;
+    size_t besides;
+    size_t length;
+} featherloom_written;
+
+/*
+ * Writes the message in plain form: header values, the Comp ID's characters (no null), a map of 32 bytes, and the fields
+ * in wire form. Refusals 5 to 10, 12, 11. At most 4,096 bytes are needed.
+ */
+featherloom_written featherloom_write(uint8_t *buffer, size_t room, featherloom_header header, const uint8_t *comp_id,
+                                      size_t comp_id_count, const uint8_t map[32], const uint8_t *body,
+                                      size_t body_count);
+
+/*
+ * The session of one day. It is a value: give it to a call, keep the one that comes back. Every call checks it first, and
+ * refuses with FEATHERLOOM_NOT_A_SESSION a session that no day has.
+ */
+
+enum { FEATHERLOOM_STATE_DOWN = 0, FEATHERLOOM_STATE_WAITING = 1, FEATHERLOOM_STATE_LIVE = 2 };
+
+typedef struct featherloom_session {
+    uint32_t state;
+    uint8_t comp_id[12]; /* ours, zeros after it */
+    uint32_t expected;   /* E, the number expected next */
+    uint32_t own;        /* O, our next number */
+    uint32_t ahead;      /* M, the number ahead that made us ask; 0 for none */
+} featherloom_session;
+
+/* A session; on a refusal of fresh or saved it is one that every call refuses, and of drop the one that was given. */
+typedef struct featherloom_made {
+    uint32_t refusal;
+    featherloom_session session;
+} featherloom_made;
+
+/* The Logon to send has this number and this Next Expected: featherloom_put_logon makes its bytes. */
+typedef struct featherloom_connected {
+    uint32_t refusal;
+    featherloom_session session;
+    uint32_t number;
+    uint32_t next;
+} featherloom_connected;
+
+enum {
+    FEATHERLOOM_SEND_NONE = 0,
+    FEATHERLOOM_SEND_HEARTBEAT = 1,     /* first: the ID that it answers */
+    FEATHERLOOM_SEND_LOGOUT = 2,
+    FEATHERLOOM_SEND_GAP_FILL = 3,      /* number: the first number it covers; first: New Sequence Number */
+    FEATHERLOOM_SEND_RESEND_REQUEST = 4 /* first: Start Sequence; second: End Sequence */
+};
+
+/* A message to send: featherloom_put makes its bytes. */
+typedef struct featherloom_send {
+    uint32_t kind;
+    uint32_t number;
+    uint32_t first;
+    uint32_t second;
+} featherloom_send;
+
+enum {
+    FEATHERLOOM_ROW_NONE = 0,
+    FEATHERLOOM_ROW_BUSINESS = 1, /* hand the message up */
+    FEATHERLOOM_ROW_SESSION = 2,
+    FEATHERLOOM_ROW_FILLED = 3,
+    FEATHERLOOM_ROW_RESET = 4
+};
+
+/* An account row: the first and the last number that it takes. */
+typedef struct featherloom_row {
+    uint32_t kind;
+    uint32_t first;
+    uint32_t last;
+} featherloom_row;
+
+/*
+ * A step's answer: refusal 0, or why the message changed nothing (1, 4, 20, 90) or the session stopped (the others); the
+ * new session; two messages to send, in order; a row; and how many bytes the message has that the step looked at: 0 for
+ * 1, 2, 3, 20 and 90. After 1, come again with more bytes.
+ */
+typedef struct featherloom_stepped {
+    uint32_t refusal;
+    featherloom_session session;
+    featherloom_send first;
+    featherloom_send second;
+    featherloom_row row;
+    size_t used;
+} featherloom_stepped;
+
+/* A fresh day for our Comp ID (characters, no null): Down, E = O = 1. Refusal 6. */
+featherloom_made featherloom_fresh(const uint8_t *comp_id, size_t count);
+
+/* A day that goes on from saved E and O: Down. Refusals 23, 6. */
+featherloom_made featherloom_saved(const uint8_t *comp_id, size_t count, uint32_t expected, uint32_t own);
+
+/* Connect, with the password ready encrypted: Waiting. Refusals 90, 21, 22, 9; each gives the session back as it was. */
+featherloom_connected featherloom_connect(featherloom_session session, const uint8_t *password, size_t count);
+
+/* The line is gone: Down; E and O are kept. Refusal 90. */
+featherloom_made featherloom_drop(featherloom_session session);
+
+/* One step on the message at the front of the bytes. */
+featherloom_stepped featherloom_step(featherloom_session session, const uint8_t *bytes, size_t count);
+
+/* A message to send, as bytes for the session's Comp ID; none for FEATHERLOOM_SEND_NONE. Refusals 90, 91, 6, 11. */
+featherloom_written featherloom_put(uint8_t *buffer, size_t room, featherloom_session session, featherloom_send send);
+
+/* Connect's Logon, as bytes. Refusals 90, 9, 6, 11. */
+featherloom_written featherloom_put_logon(uint8_t *buffer, size_t room, featherloom_session session, uint32_t number,
+                                          const uint8_t *password, size_t count, uint32_t next);
+
+/*
+ * The resend plan of a gateway, for a test bench.
+ */
+
+/* How many pairs were written; with FEATHERLOOM_NO_ROOM how many are needed. */
+typedef struct featherloom_planned {
+    uint32_t refusal;
+    size_t pairs;
+} featherloom_planned;
+
+/*
+ * A list of at most 65,536 bytes says for numbers 1, 2, .. whether each is business (1) or session (0). For Start and End
+ * (0: the last) the plan is written as pairs of numbers, (n, 0) for a business number and (first, New) for a gap fill, into
+ * `numbers`, which has room for `room` numbers. Refusals 40, 11.
+ */
+featherloom_planned featherloom_plan(const uint8_t *list, size_t count, uint32_t start, uint32_t end,
+                                     uint32_t *numbers, size_t room);
+
+#ifdef __cplusplus
+}
+#define FEATHERLOOM_ASSERT(true_here) static_assert(true_here, #true_here)
+#else
+#define FEATHERLOOM_ASSERT(true_here) _Static_assert(true_here, #true_here)
+#endif
+
+/* The library is built for these layouts. */
+FEATHERLOOM_ASSERT(sizeof(size_t) == 8);
+FEATHERLOOM_ASSERT(sizeof(featherloom_reading) == 32);
+FEATHERLOOM_ASSERT(offsetof(featherloom_reading, kind) == 24);
+FEATHERLOOM_ASSERT(sizeof(featherloom_part) == 32);
+FEATHERLOOM_ASSERT(sizeof(featherloom_value) == 32);
+FEATHERLOOM_ASSERT(sizeof(featherloom_header) == 8);
+FEATHERLOOM_ASSERT(offsetof(featherloom_header, number) == 4);
+FEATHERLOOM_ASSERT(sizeof(featherloom_written) == 24);
+FEATHERLOOM_ASSERT(sizeof(featherloom_session) == 28);
+FEATHERLOOM_ASSERT(sizeof(featherloom_made) == 32);
+FEATHERLOOM_ASSERT(sizeof(featherloom_connected) == 40);
+FEATHERLOOM_ASSERT(sizeof(featherloom_send) == 16);
+FEATHERLOOM_ASSERT(sizeof(featherloom_row) == 12);
+FEATHERLOOM_ASSERT(sizeof(featherloom_stepped) == 88);
+FEATHERLOOM_ASSERT(offsetof(featherloom_stepped, used) == 80);
+FEATHERLOOM_ASSERT(sizeof(featherloom_planned) == 16);
+#undef FEATHERLOOM_ASSERT
+
+#endif
