@@ -1,0 +1,377 @@
+//! Messages a second and bytes a second of the proved library, of the twin and
+//! of the plain hand-written decoder, all in one run on the same messages.
+
+#[allow(dead_code)] // shared with compare, which needs more
+#[path = "../proved.rs"]
+mod proved;
+
+use std::time::Instant;
+use twin::make::{self, Given, Rng};
+use twin::session::{self, RowSort};
+use twin::tables::EXECUTION_REPORTS;
+use twin::wire::{set, MAP_WIDTH, MOST};
+use twin::writer::{self, HeadValues};
+use twin::{crc, plain, reader};
+
+const ROUNDS: usize = 7;
+const US: &[u8] = b"RECORDER01";
+
+/// The sides in the order of the table's columns.
+const PROVED: usize = 0;
+const TWIN: usize = 1;
+const PLAIN: usize = 2;
+
+/// An execution report by one of the nine tables: all that it requires and
+/// some of the rest, 180 to 350 bytes.
+fn report(rng: &mut Rng, number: u32) -> Vec<u8> {
+    loop {
+        let table = EXECUTION_REPORTS[rng.index(EXECUTION_REPORTS.len())];
+        let mut map = [0; MAP_WIDTH];
+        let mut body = Vec::new();
+        for &(position, field, required) in table {
+            if required || rng.chance(30) {
+                set(&mut map, position);
+                body.extend(make::field(rng, field));
+            }
+        }
+        let given = Given {
+            kind: 10,
+            number,
+            poss_dup: 0,
+            poss_resend: 0,
+            comp_id: US,
+        };
+        let comp_id = make::fixed_text(rng, US, 12);
+        let bytes = make::frame(&given, &comp_id, &map, &body);
+        if (180..=350).contains(&bytes.len()) {
+            return bytes;
+        }
+    }
+}
+
+/// Another number for a message, the sum made right again.
+fn renumber(bytes: &mut [u8], number: u32) {
+    bytes[4..8].copy_from_slice(&number.to_le_bytes());
+    let at = bytes.len() - 4;
+    let sum = plain::crc32c(&bytes[..at]).to_le_bytes();
+    bytes[at..].copy_from_slice(&sum);
+}
+
+/// What one side took for one round: seconds, and a figure made from the
+/// answers, which all sides must agree on.
+type Side<'a> = &'a mut dyn FnMut() -> u64;
+
+fn timed(side: Side) -> (f64, u64) {
+    let began = Instant::now();
+    let figure = side();
+    (began.elapsed().as_secs_f64(), figure)
+}
+
+/// Seconds a round, by side; no entry for a side that does not do this.
+type Seconds = [Vec<f64>; 3];
+
+/// Lets the sides run in turn, each round beginning with another one.
+fn in_turn(round: usize, sides: &mut [Option<Side>; 3]) -> [Option<f64>; 3] {
+    let mut seconds = [None; 3];
+    let mut agreed = None;
+    for turn in 0..3 {
+        let which = (round + turn) % 3;
+        if let Some(side) = &mut sides[which] {
+            let (took, figure) = timed(side);
+            assert_eq!(*agreed.get_or_insert(figure), figure, "the sides differ");
+            seconds[which] = Some(took);
+        }
+    }
+    seconds
+}
+
+fn rounds(mut sides: [Option<Side>; 3]) -> Seconds {
+    let mut all = Seconds::default();
+    // One round to warm up is not counted.
+    in_turn(0, &mut sides);
+    for round in 0..ROUNDS {
+        for (side, seconds) in in_turn(round, &mut sides).into_iter().enumerate() {
+            all[side].extend(seconds);
+        }
+    }
+    all
+}
+
+fn read(messages: &[Vec<u8>], times: usize) -> Seconds {
+    let over = |read: fn(&[u8]) -> u64| {
+        move || {
+            let mut figure = 0u64;
+            for _ in 0..times {
+                for bytes in messages {
+                    figure = figure.wrapping_mul(31).wrapping_add(read(bytes));
+                }
+            }
+            figure
+        }
+    };
+    let mut proved = over(|bytes| {
+        let answer = proved::read(bytes);
+        assert_eq!(answer.refusal, 0);
+        u64::from(answer.number) + answer.length as u64
+    });
+    let mut twin = over(|bytes| {
+        let head = reader::read(bytes).expect("a good message");
+        u64::from(head.number) + head.length as u64
+    });
+    let mut plain = over(|bytes| {
+        let head = plain::read(bytes).expect("a good message");
+        u64::from(head.number) + head.length as u64
+    });
+    rounds([Some(&mut proved), Some(&mut twin), Some(&mut plain)])
+}
+
+fn sums(messages: &[Vec<u8>], times: usize) -> Seconds {
+    let over = |sum: fn(&[u8]) -> u32| {
+        move || {
+            let mut figure = 0u64;
+            for _ in 0..times {
+                for bytes in messages {
+                    figure = figure.wrapping_mul(31).wrapping_add(u64::from(sum(bytes)));
+                }
+            }
+            figure
+        }
+    };
+    let mut proved = over(proved::crc32c);
+    let mut twin = over(crc::crc32c);
+    let mut plain = over(plain::crc32c);
+    rounds([Some(&mut proved), Some(&mut twin), Some(&mut plain)])
+}
+
+/// The parts of each message go in, the plain form comes out. Also the bytes
+/// that one round writes.
+fn write(messages: &[Vec<u8>], times: usize) -> (Seconds, u64) {
+    struct Given {
+        head: HeadValues,
+        header: proved::Header,
+        map: [u8; MAP_WIDTH],
+        body: Vec<u8>,
+    }
+    let all: Vec<Given> = messages
+        .iter()
+        .map(|bytes| {
+            let head = reader::read(bytes).expect("a good message");
+            let mut map = [0; MAP_WIDTH];
+            map.copy_from_slice(reader::map(bytes));
+            Given {
+                head: HeadValues {
+                    kind: head.kind,
+                    number: head.number,
+                    poss_dup: head.poss_dup,
+                    poss_resend: head.poss_resend,
+                },
+                header: proved::Header {
+                    kind: head.kind,
+                    possdup: head.poss_dup,
+                    possresend: head.poss_resend,
+                    number: head.number,
+                },
+                map,
+                body: reader::body(bytes).to_vec(),
+            }
+        })
+        .collect();
+    let all = &all;
+    // The last byte is the sum's, so it speaks for all the others.
+    let over = |write: fn(&Given, &mut [u8]) -> usize| {
+        move || {
+            let mut figure = 0u64;
+            let mut out = [0; MOST];
+            for _ in 0..times {
+                for given in all {
+                    let length = write(given, &mut out);
+                    figure = figure
+                        .wrapping_mul(31)
+                        .wrapping_add(length as u64 + u64::from(out[length - 1]));
+                }
+            }
+            figure
+        }
+    };
+    let mut proved =
+        over(|given, out| proved::write(out, given.header, US, &given.map, &given.body).length);
+    let mut twin = over(|given, out| {
+        writer::write(&given.head, US, &given.map, &given.body, out).expect("a good message")
+    });
+    let seconds = rounds([Some(&mut proved), Some(&mut twin), None]);
+    let mut out = [0; MOST];
+    let bytes: usize = all
+        .iter()
+        .map(|given| proved::write(&mut out, given.header, US, &given.map, &given.body).length)
+        .sum();
+    (seconds, (bytes * times) as u64)
+}
+
+/// The gateway's Logon, number 1, which expects our number 2.
+fn logon() -> Vec<u8> {
+    writer::logon(1, US, b"", 2).expect("a good Logon")
+}
+
+/// One Live session a side, and a day of reports with rising numbers. The day
+/// is made chunk by chunk outside the clock, so that it need not be held whole.
+fn step(reports: &[Vec<u8>], day: usize) -> (Seconds, u64) {
+    let mut all = Seconds::default();
+    let mut bytes_a_day = 0;
+    for round in 0..ROUNDS {
+        let mut chunk = reports.to_vec();
+        let logon = logon();
+        let mut a = proved::connect(proved::fresh(US).session, b"").session;
+        a = proved::step(a, &logon).session;
+        let mut b = session::Session::fresh(US).expect("a good Comp ID");
+        b.connect(b"").expect("a fresh day connects");
+        b.step(&logon);
+        let mut c = plain::Session::fresh(US).expect("a good Comp ID");
+        c.connect(b"").expect("a fresh day connects");
+        c.step(&logon);
+
+        let mut seconds = [0.0; 3];
+        let mut next = 2;
+        bytes_a_day = 0;
+        for part in 0..day / reports.len() {
+            for bytes in &mut chunk {
+                renumber(bytes, next);
+                next += 1;
+                bytes_a_day += bytes.len() as u64;
+            }
+            // Business rows only, each with the message's number.
+            let mut proved = || {
+                let mut figure = 0;
+                for bytes in &chunk {
+                    let answer = proved::step(a, bytes);
+                    a = answer.session;
+                    figure += u64::from(answer.row.kind == 1) * u64::from(answer.row.last);
+                }
+                figure
+            };
+            let business = |answer: session::Answer| {
+                u64::from(answer.row.sort == RowSort::Business) * u64::from(answer.row.last)
+            };
+            let mut twin = || chunk.iter().map(|bytes| business(b.step(bytes))).sum();
+            let mut plain = || chunk.iter().map(|bytes| business(c.step(bytes))).sum();
+            let took = in_turn(
+                round + part,
+                &mut [Some(&mut proved), Some(&mut twin), Some(&mut plain)],
+            );
+            for (sum, took) in seconds.iter_mut().zip(took) {
+                *sum += took.expect("every side steps");
+            }
+        }
+        assert_eq!([a.expected, b.e, c.e], [next; 3], "a day taken whole");
+        for (side, took) in all.iter_mut().zip(seconds) {
+            side.push(took);
+        }
+    }
+    (all, bytes_a_day)
+}
+
+fn median(seconds: &[f64]) -> f64 {
+    let mut sorted = seconds.to_vec();
+    sorted.sort_by(f64::total_cmp);
+    sorted[sorted.len() / 2]
+}
+
+/// The table's lines for one kind of work over so many messages and bytes.
+fn tell(work: &str, messages: u64, bytes: u64, seconds: &Seconds) {
+    for (side, name) in ["proved", "twin", "plain"].iter().enumerate() {
+        let all = &seconds[side];
+        if all.is_empty() {
+            println!("{:7} {:7} {:>12}", work, name, "-");
+            continue;
+        }
+        let middle = median(all);
+        let least = all.iter().copied().fold(f64::INFINITY, f64::min);
+        let most = all.iter().copied().fold(0.0, f64::max);
+        println!(
+            "{:7} {:7} {:12.0} {:10.1} {:7.1} .. {:.1} %",
+            work,
+            name,
+            messages as f64 / middle,
+            bytes as f64 / middle / 1e6,
+            (middle / most - 1.0) * 100.0,
+            (middle / least - 1.0) * 100.0,
+        );
+    }
+}
+
+/// How many times the library's speed is another side's.
+fn ratio(seconds: &Seconds, side: usize) -> String {
+    if seconds[side].is_empty() {
+        return String::from("-");
+    }
+    format!("{:.3}", median(&seconds[side]) / median(&seconds[PROVED]))
+}
+
+fn machine() -> String {
+    let info = std::fs::read_to_string("/proc/cpuinfo").unwrap_or_default();
+    let model = info
+        .lines()
+        .find(|line| line.starts_with("model name"))
+        .and_then(|line| line.split(':').nth(1))
+        .unwrap_or(" unknown model");
+    format!("{},{}", std::env::consts::ARCH, model)
+}
+
+fn main() {
+    let mut quick = false;
+    for word in std::env::args().skip(1) {
+        if word != "--quick" {
+            eprintln!("bench [--quick]");
+            std::process::exit(2);
+        }
+        quick = true;
+    }
+    if std::env::var_os("FEATHERLOOM_EMULATED").is_some() {
+        println!("bench: runs under an emulator; these figures say nothing about speed");
+    }
+    println!("bench: {}", machine());
+
+    let mut rng = Rng::new(1);
+    let count: usize = if quick { 500 } else { 10_000 };
+    let day: usize = if quick { 20_000 } else { 1_000_000 };
+    let times = if quick { 10 } else { 20 };
+    let reports: Vec<Vec<u8>> = (0..count)
+        .map(|index| report(&mut rng, index as u32 + 1))
+        .collect();
+    let bytes: u64 = reports.iter().map(|bytes| bytes.len() as u64).sum();
+    println!(
+        "bench: {} execution reports of {} bytes on average, {} rounds, a day of {}",
+        count,
+        bytes / count as u64,
+        ROUNDS,
+        day
+    );
+
+    let read = read(&reports, times);
+    let (step, bytes_a_day) = step(&reports, day);
+    let (write, bytes_written) = write(&reports, times);
+    let sums = sums(&reports, times);
+
+    println!();
+    println!("work    side      messages/s       MB/s  spread of 7 rounds");
+    let (messages, all_bytes) = ((count * times) as u64, bytes * times as u64);
+    tell("read", messages, all_bytes, &read);
+    tell("step", day as u64, bytes_a_day, &step);
+    tell("write", messages, bytes_written, &write);
+    tell("crc32c", messages, all_bytes, &sums);
+    println!();
+    println!("work    proved/plain  proved/twin   (speed; above 1: the library is faster)");
+    for (work, seconds) in [
+        ("read", &read),
+        ("step", &step),
+        ("write", &write),
+        ("crc32c", &sums),
+    ] {
+        println!(
+            "{:7} {:>12} {:>12}",
+            work,
+            ratio(seconds, PLAIN),
+            ratio(seconds, TWIN)
+        );
+    }
+    println!("the plain decoder has no writer");
+}

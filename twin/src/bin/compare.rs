@@ -1,0 +1,1351 @@
+//! Holds the proved library against the twin: every call of the C interface on
+//! made input, its whole answer compared with what the twin says. The input
+//! comes from the seed alone.
+
+#[allow(dead_code)] // shared with bench, which needs less
+#[path = "../proved.rs"]
+mod proved;
+
+use proved::{Connected, Header, Made, Part, Planned, Reading, Row, Send, Stepped, Value, Written};
+use std::fmt::{Debug, Formatter};
+use std::io::Write;
+use std::process::{exit, Command, Stdio};
+use std::time::{Duration, Instant};
+use twin::make::{self, Event, Rng};
+use twin::reader::{self, Head};
+use twin::session::{self, Phase, RowSort, LAST};
+use twin::tables;
+use twin::wire::{self, Refusal, BODY_AT, MAP_WIDTH, TRAILER};
+use twin::writer::{self, HeadValues};
+use twin::{crc, daysheet, plan};
+
+const NOT_A_SESSION: u32 = 90;
+const NOT_A_SEND: u32 = 91;
+
+/// A few differences tell enough; then the run ends.
+const ENOUGH: u32 = 10;
+
+// ---- Counting ----
+
+/// The categories, with their parts of a hundred of the random comparisons.
+const CATEGORIES: [(&str, u64); 9] = [
+    ("short inputs", 8),
+    ("valid messages", 32),
+    ("writes, good and bad", 8),
+    ("damage", 12),
+    ("histories", 22),
+    ("sessions that no day has", 12),
+    ("plan", 5),
+    ("crc32c", 1),
+    ("daysheet", 0),
+];
+
+struct Tally {
+    category: usize,
+    counts: [u64; CATEGORIES.len()],
+    /// How often the twin gave each refusal, to see that none is missed.
+    met: [u64; NOT_A_SEND as usize + 1],
+    differences: u32,
+    began: Instant,
+    told: Instant,
+}
+
+impl Tally {
+    fn new() -> Tally {
+        Tally {
+            category: 0,
+            counts: [0; CATEGORIES.len()],
+            met: [0; NOT_A_SEND as usize + 1],
+            differences: 0,
+            began: Instant::now(),
+            told: Instant::now(),
+        }
+    }
+
+    fn count(&self) -> u64 {
+        self.counts[self.category]
+    }
+
+    fn total(&self) -> u64 {
+        self.counts.iter().sum()
+    }
+
+    /// One comparison: the twin's whole answer, with its refusal, and the
+    /// library's.
+    fn hold<A: PartialEq + Debug>(
+        &mut self,
+        refusal: u32,
+        twin: A,
+        proved: A,
+        input: impl FnOnce() -> String,
+    ) {
+        self.counts[self.category] += 1;
+        self.met[refusal as usize] += 1;
+        if self.count() % 512 == 0 && self.told.elapsed() > Duration::from_secs(1) {
+            self.told = Instant::now();
+            let name = CATEGORIES[self.category].0;
+            let seconds = self.began.elapsed().as_secs();
+            eprint!("\r{:4} s  {:9}  {:26}", seconds, self.total(), name);
+        }
+        if twin == proved {
+            return;
+        }
+        self.differences += 1;
+        eprintln!();
+        println!(
+            "difference {} in {}",
+            self.differences, CATEGORIES[self.category].0
+        );
+        println!("  input:  {}", input());
+        println!("  twin:   {:?}", twin);
+        println!("  proved: {:?}", proved);
+        if self.differences == ENOUGH {
+            self.end();
+        }
+    }
+
+    fn end(&self) -> ! {
+        eprintln!();
+        for ((name, _), count) in CATEGORIES.iter().zip(self.counts) {
+            println!("{:26} {:9}", name, count);
+        }
+        let met: Vec<String> = (0..)
+            .zip(self.met)
+            .filter(|&(_, times)| times > 0)
+            .map(|(refusal, times): (u32, u64)| format!("{} ({})", refusal, times))
+            .collect();
+        println!("refusals met, and how often: {}", met.join(", "));
+        println!("seconds {}", self.began.elapsed().as_secs());
+        println!(
+            "compare: {} comparisons, {} differences",
+            self.total(),
+            self.differences
+        );
+        exit((self.differences > 0) as i32);
+    }
+}
+
+/// Bytes that print as hex.
+#[derive(PartialEq)]
+struct Hex(Vec<u8>);
+
+impl Debug for Hex {
+    fn fmt(&self, f: &mut Formatter) -> std::fmt::Result {
+        f.write_str(&hex(&self.0))
+    }
+}
+
+fn hex(bytes: &[u8]) -> String {
+    if bytes.is_empty() {
+        return String::from("(none)");
+    }
+    bytes.iter().map(|byte| format!("{:02X}", byte)).collect()
+}
+
+/// A session as an argument, its Comp ID in hex.
+fn shown(s: &proved::Session) -> String {
+    format!(
+        "session state {} comp_id {} E {} O {} M {}",
+        s.state,
+        hex(&s.comp_id),
+        s.expected,
+        s.own,
+        s.ahead
+    )
+}
+
+// ---- The twin's answers, laid out as the header's structs ----
+
+fn reading(answer: Result<Head, Refusal>) -> Reading {
+    match answer {
+        Ok(head) => Reading {
+            number: head.number,
+            length: head.length,
+            kind: head.kind,
+            possdup: head.poss_dup,
+            possresend: head.poss_resend,
+            ..Reading::default()
+        },
+        Err(refusal) => Reading {
+            refusal: refusal.number,
+            besides: refusal.besides as usize,
+            ..Reading::default()
+        },
+    }
+}
+
+/// A part of `bytes`, and the bytes themselves.
+fn part(bytes: &[u8], answer: Result<&[u8], (u32, usize)>) -> (Part, Hex) {
+    match answer {
+        Ok(part) => (
+            Part {
+                offset: part.as_ptr() as usize - bytes.as_ptr() as usize,
+                length: part.len(),
+                ..Part::default()
+            },
+            Hex(part.to_vec()),
+        ),
+        Err((refusal, besides)) => (
+            Part {
+                refusal,
+                besides,
+                ..Part::default()
+            },
+            Hex(Vec::new()),
+        ),
+    }
+}
+
+/// The bytes that the library's part names; none where it reaches outside.
+fn named(bytes: &[u8], part: Part) -> (Part, Hex) {
+    let end = part.offset.saturating_add(part.length);
+    (
+        part,
+        Hex(bytes.get(part.offset..end).unwrap_or(&[]).to_vec()),
+    )
+}
+
+/// The twin takes 32-bit positions. All from 256 on are unknown, and 7 gives
+/// back the position asked.
+fn asked<T>(
+    position: usize,
+    ask: impl FnOnce(u32) -> Result<T, Refusal>,
+) -> Result<T, (u32, usize)> {
+    let near = u32::try_from(position).unwrap_or(u32::MAX);
+    ask(near).map_err(|refusal| {
+        if refusal.number == wire::UNKNOWN_POSITION && refusal.besides == near {
+            (refusal.number, position)
+        } else {
+            (refusal.number, refusal.besides as usize)
+        }
+    })
+}
+
+fn value(bytes: &[u8], position: usize) -> Value {
+    match asked(position, |position| reader::ask_number(bytes, position)) {
+        Ok(reader::Value::Number(number)) => Value {
+            sort: proved::NUMBER,
+            number,
+            ..Value::default()
+        },
+        Ok(reader::Value::Decimal(decimal)) => Value {
+            sort: proved::DECIMAL,
+            decimal,
+            ..Value::default()
+        },
+        Err((refusal, besides)) => Value {
+            refusal,
+            besides,
+            ..Value::default()
+        },
+    }
+}
+
+fn refused(refusal: u32) -> Written {
+    Written {
+        refusal,
+        ..Written::default()
+    }
+}
+
+fn written(answer: Result<usize, Refusal>) -> Written {
+    match answer {
+        Ok(length) => Written {
+            length,
+            ..Written::default()
+        },
+        Err(refusal) => Written {
+            besides: refusal.besides as usize,
+            ..refused(refusal.number)
+        },
+    }
+}
+
+/// The bytes of a message to send, laid into a buffer.
+fn lay(bytes: Result<Vec<u8>, Refusal>, out: &mut [u8]) -> Written {
+    written(bytes.and_then(|bytes| {
+        if bytes.len() > out.len() {
+            return Err(wire::refuse(wire::NO_ROOM, bytes.len()));
+        }
+        out[..bytes.len()].copy_from_slice(&bytes);
+        Ok(bytes.len())
+    }))
+}
+
+fn struct_of(session: &session::Session) -> proved::Session {
+    let mut comp_id = [0; 12];
+    comp_id[..session.comp_id.len()].copy_from_slice(&session.comp_id);
+    proved::Session {
+        state: match session.phase {
+            Phase::Down => proved::DOWN,
+            Phase::Waiting => proved::WAITING,
+            Phase::Live => proved::LIVE,
+        },
+        comp_id,
+        expected: session.e,
+        own: session.o,
+        ahead: session.m,
+    }
+}
+
+/// What a session of some day can be.
+fn is_session(s: &proved::Session) -> bool {
+    let count = s.comp_id.iter().position(|&byte| byte == 0).unwrap_or(12);
+    let (characters, zeros) = s.comp_id.split_at(count);
+    let good_comp_id = (1..=11).contains(&count)
+        && characters.iter().all(|byte| (32..=126).contains(byte))
+        && zeros.iter().all(|&byte| byte == 0);
+    // Down is before the first Connect, or after it; up is after a Logon.
+    let least_own = if s.state == proved::DOWN { 1 } else { 2 };
+    // Asking for what is missing took a number of ours, and what made us ask
+    // lay ahead of E and is not reached yet.
+    let good_ahead = s.ahead == 0
+        || (s.state == proved::LIVE && s.ahead >= 2 && s.ahead >= s.expected && s.own >= 3);
+    s.state <= proved::LIVE && good_comp_id && s.expected >= 1 && s.own >= least_own && good_ahead
+}
+
+/// The twin's session for a struct; None where no day has such a one.
+fn session_of(s: &proved::Session) -> Option<session::Session> {
+    if !is_session(s) {
+        return None;
+    }
+    let count = s.comp_id.iter().position(|&byte| byte == 0)?;
+    Some(session::Session {
+        phase: [Phase::Down, Phase::Waiting, Phase::Live][s.state as usize],
+        comp_id: s.comp_id[..count].to_vec(),
+        e: s.expected,
+        o: s.own,
+        m: s.ahead,
+    })
+}
+
+/// What stands beside a refusal of fresh or saved.
+const NO_DAY: proved::Session = proved::Session {
+    state: proved::DOWN,
+    comp_id: [0; 12],
+    expected: 1,
+    own: 1,
+    ahead: 0,
+};
+
+fn made(answer: Result<session::Session, Refusal>) -> Made {
+    match answer {
+        Ok(session) => Made {
+            refusal: 0,
+            session: struct_of(&session),
+        },
+        Err(refusal) => Made {
+            refusal: refusal.number,
+            session: NO_DAY,
+        },
+    }
+}
+
+fn dropped(s: proved::Session) -> Made {
+    match session_of(&s) {
+        None => Made {
+            refusal: NOT_A_SESSION,
+            session: s,
+        },
+        Some(mut session) => {
+            session.drop();
+            made(Ok(session))
+        }
+    }
+}
+
+fn connected(s: proved::Session, password: &[u8]) -> Connected {
+    let unchanged = |refusal| Connected {
+        refusal,
+        session: s,
+        ..Connected::default()
+    };
+    let mut session = match session_of(&s) {
+        None => return unchanged(NOT_A_SESSION),
+        Some(session) => session,
+    };
+    match session.connect(password) {
+        Ok(logon) => Connected {
+            refusal: 0,
+            session: struct_of(&session),
+            number: logon.number,
+            next: logon.next_expected,
+        },
+        Err(refusal) => unchanged(refusal.number),
+    }
+}
+
+fn send_struct(send: session::Send) -> Send {
+    let of = |kind, number, first, second| Send {
+        kind,
+        number,
+        first,
+        second,
+    };
+    match send {
+        session::Send::None => Send::default(),
+        session::Send::Heartbeat { number, id } => of(1, number, u32::from(id), 0),
+        session::Send::Logout { number } => of(2, number, 0, 0),
+        session::Send::GapFill { first, new } => of(3, first, new, 0),
+        session::Send::ResendRequest { number, start, end } => of(4, number, start, end),
+    }
+}
+
+/// The twin's message for a struct; None where no session gives such a one.
+fn send_of(send: Send) -> Option<session::Send> {
+    let number = send.number;
+    Some(match send.kind {
+        0 => session::Send::None,
+        1 => session::Send::Heartbeat {
+            number,
+            id: u16::try_from(send.first).ok()?,
+        },
+        2 => session::Send::Logout { number },
+        3 => session::Send::GapFill {
+            first: number,
+            new: send.first,
+        },
+        4 => session::Send::ResendRequest {
+            number,
+            start: send.first,
+            end: send.second,
+        },
+        _ => return None,
+    })
+}
+
+fn row_struct(row: session::Row) -> Row {
+    Row {
+        kind: match row.sort {
+            RowSort::None => 0,
+            RowSort::Business => 1,
+            RowSort::Session => 2,
+            RowSort::Filled => 3,
+            RowSort::Reset => 4,
+        },
+        first: row.first,
+        last: row.last,
+    }
+}
+
+fn stepped(s: proved::Session, bytes: &[u8]) -> Stepped {
+    let mut session = match session_of(&s) {
+        None => {
+            return Stepped {
+                refusal: NOT_A_SESSION,
+                session: s,
+                ..Stepped::default()
+            }
+        }
+        Some(session) => session,
+    };
+    let answer = session.step(bytes);
+    // A Length that the step did not get to, or did not trust, is not told.
+    let used = match answer.code {
+        wire::SHORT | wire::BAD_START | wire::BAD_LENGTH | session::DOWN => 0,
+        _ => usize::from(u16::from_le_bytes([bytes[1], bytes[2]])),
+    };
+    Stepped {
+        refusal: answer.code,
+        session: struct_of(&session),
+        first: send_struct(answer.sends[0]),
+        second: send_struct(answer.sends[1]),
+        row: row_struct(answer.row),
+        used,
+    }
+}
+
+// ---- The calls, one comparison each ----
+
+fn hold_read(tally: &mut Tally, bytes: &[u8]) {
+    let answer = reading(reader::read(bytes));
+    tally.hold(answer.refusal, answer, proved::read(bytes), || {
+        format!("read {}", hex(bytes))
+    });
+}
+
+fn hold_parts(tally: &mut Tally, bytes: &[u8]) {
+    type Twin = fn(&[u8]) -> &[u8];
+    type Proved = fn(&[u8]) -> Part;
+    let calls: [(&str, Twin, Proved); 3] = [
+        ("comp_id", reader::comp_id, proved::comp_id),
+        ("map", reader::map, proved::map),
+        ("body", reader::body, proved::body),
+    ];
+    let refusal = reader::read(bytes)
+        .err()
+        .map(|refusal| (refusal.number, refusal.besides as usize));
+    for (name, twin, proved) in calls {
+        let answer = part(bytes, refusal.map_or_else(|| Ok(twin(bytes)), Err));
+        tally.hold(
+            answer.0.refusal,
+            answer,
+            named(bytes, proved(bytes)),
+            || format!("{} {}", name, hex(bytes)),
+        );
+    }
+}
+
+fn hold_questions(tally: &mut Tally, bytes: &[u8], position: usize) {
+    let number = value(bytes, position);
+    tally.hold(number.refusal, number, proved::ask(bytes, position), || {
+        format!("ask position {} {}", position, hex(bytes))
+    });
+    let text = asked(position, |position| reader::ask_text(bytes, position));
+    let text = part(bytes, text);
+    tally.hold(
+        text.0.refusal,
+        text,
+        named(bytes, proved::text(bytes, position)),
+        || format!("text position {} {}", position, hex(bytes)),
+    );
+}
+
+/// Bytes before and after a lent buffer, to see what is written outside.
+const GUARD: usize = 16;
+
+/// A call that fills a buffer: the answer, and the buffer afterwards.
+fn hold_written(
+    tally: &mut Tally,
+    room: usize,
+    twin: impl FnOnce(&mut [u8]) -> Written,
+    proved: impl FnOnce(&mut [u8]) -> Written,
+    input: impl FnOnce() -> String,
+) {
+    let mut ours: Vec<u8> = (0..GUARD + room + GUARD)
+        .map(|at| (at as u8).wrapping_mul(73).wrapping_add(41))
+        .collect();
+    let mut its = ours.clone();
+    let answer = twin(&mut ours[GUARD..GUARD + room]);
+    let its_answer = proved(&mut its[GUARD..GUARD + room]);
+    let (twin, proved) = ((answer, Hex(ours)), (its_answer, Hex(its)));
+    tally.hold(answer.refusal, twin, proved, || {
+        format!("{} room {}", input(), room)
+    });
+}
+
+/// Room of exactly `length`, one less, and more.
+fn rooms(rng: &mut Rng, length: usize) -> [usize; 3] {
+    [length, length.saturating_sub(1), length + 1 + rng.index(80)]
+}
+
+struct ToWrite {
+    head: HeadValues,
+    comp_id: Vec<u8>,
+    map: [u8; MAP_WIDTH],
+    body: Vec<u8>,
+}
+
+fn hold_write(tally: &mut Tally, given: &ToWrite, room: usize) {
+    let ToWrite {
+        head,
+        comp_id,
+        map,
+        body,
+    } = given;
+    let header = Header {
+        kind: head.kind,
+        possdup: head.poss_dup,
+        possresend: head.poss_resend,
+        number: head.number,
+    };
+    hold_written(
+        tally,
+        room,
+        |out| written(writer::write(head, comp_id, map, body, out)),
+        |out| proved::write(out, header, comp_id, map, body),
+        || {
+            format!(
+                "write {:?} comp_id {} map {} body {}",
+                header,
+                hex(comp_id),
+                hex(map),
+                hex(body)
+            )
+        },
+    );
+}
+
+fn hold_step(tally: &mut Tally, s: proved::Session, bytes: &[u8]) -> Stepped {
+    let answer = stepped(s, bytes);
+    tally.hold(answer.refusal, answer, proved::step(s, bytes), || {
+        format!("step {} {}", shown(&s), hex(bytes))
+    });
+    answer
+}
+
+fn hold_connect(tally: &mut Tally, s: proved::Session, password: &[u8]) -> Connected {
+    let answer = connected(s, password);
+    tally.hold(answer.refusal, answer, proved::connect(s, password), || {
+        format!("connect {} password {}", shown(&s), hex(password))
+    });
+    answer
+}
+
+fn hold_drop(tally: &mut Tally, s: proved::Session) -> proved::Session {
+    let answer = dropped(s);
+    tally.hold(answer.refusal, answer, proved::drop(s), || {
+        format!("drop {}", shown(&s))
+    });
+    answer.session
+}
+
+fn hold_fresh(tally: &mut Tally, comp_id: &[u8]) {
+    let answer = made(session::Session::fresh(comp_id));
+    tally.hold(answer.refusal, answer, proved::fresh(comp_id), || {
+        format!("fresh {}", hex(comp_id))
+    });
+}
+
+fn hold_saved(tally: &mut Tally, comp_id: &[u8], e: u32, o: u32) -> proved::Session {
+    let answer = made(session::Session::saved(comp_id, e, o));
+    tally.hold(answer.refusal, answer, proved::saved(comp_id, e, o), || {
+        format!("saved {} E {} O {}", hex(comp_id), e, o)
+    });
+    answer.session
+}
+
+fn hold_put(tally: &mut Tally, s: proved::Session, send: Send, room: usize) {
+    let twin = |out: &mut [u8]| match (session_of(&s), send_of(send)) {
+        (None, _) => refused(NOT_A_SESSION),
+        (_, None) => refused(NOT_A_SEND),
+        (Some(session), Some(send)) => lay(send.bytes(&session.comp_id), out),
+    };
+    hold_written(
+        tally,
+        room,
+        twin,
+        |out| proved::put(out, s, send),
+        || format!("put {} {:?}", shown(&s), send),
+    );
+}
+
+fn hold_put_logon(
+    tally: &mut Tally,
+    s: proved::Session,
+    number: u32,
+    password: &[u8],
+    next: u32,
+    room: usize,
+) {
+    let twin = |out: &mut [u8]| match session_of(&s) {
+        None => refused(NOT_A_SESSION),
+        Some(session) => lay(writer::logon(number, &session.comp_id, password, next), out),
+    };
+    hold_written(
+        tally,
+        room,
+        twin,
+        |out| proved::put_logon(out, s, number, password, next),
+        || {
+            format!(
+                "put_logon {} number {} password {} next {}",
+                shown(&s),
+                number,
+                hex(password),
+                next
+            )
+        },
+    );
+}
+
+// ---- Short inputs ----
+
+/// One of each state, up since the day's first Logon.
+fn small_sessions() -> [proved::Session; 3] {
+    let mut session = session::Session::fresh(b"RECORDER01").expect("a good Comp ID");
+    let down = struct_of(&session);
+    session.connect(b"").expect("a fresh day connects");
+    let waiting = struct_of(&session);
+    session.phase = Phase::Live;
+    [down, waiting, struct_of(&session)]
+}
+
+fn short_inputs(tally: &mut Tally, rng: &mut Rng, until: u64) {
+    let sessions = small_sessions();
+    let hold = |tally: &mut Tally, bytes: &[u8], turn: usize| {
+        hold_read(tally, bytes);
+        hold_step(tally, sessions[1 + turn % 2], bytes);
+    };
+    for session in sessions {
+        hold_step(tally, session, &[]);
+    }
+    hold(tally, &[], 0);
+    for a in 0..=255 {
+        for session in sessions {
+            hold_step(tally, session, &[a]);
+        }
+        hold(tally, &[a], 0);
+        for b in 0..=255 {
+            hold(tally, &[a, b], usize::from(b));
+        }
+    }
+    for length in 0..=u16::MAX {
+        let [low, high] = length.to_le_bytes();
+        hold(tally, &[wire::START, low, high], usize::from(length));
+    }
+    let until = tally.count() + until;
+    while tally.count() < until {
+        let count = rng.index(80);
+        let mut bytes = rng.bytes(count);
+        if count >= 3 && !rng.chance(10) {
+            bytes[0] = wire::START;
+            if !rng.chance(20) {
+                let length = 50 + rng.below(40) as u16;
+                bytes[1..3].copy_from_slice(&length.to_le_bytes());
+            }
+        }
+        hold_read(tally, &bytes);
+        hold_step(tally, sessions[rng.index(3)], &bytes);
+        if rng.chance(10) {
+            hold_parts(tally, &bytes);
+            hold_questions(tally, &bytes, rng.index(300));
+        }
+    }
+}
+
+// ---- Valid messages ----
+
+/// A number that a message can have.
+fn message_number(rng: &mut Rng) -> u32 {
+    rng.any_u32().max(1)
+}
+
+fn to_write(bytes: &[u8]) -> Option<ToWrite> {
+    let head = reader::read(bytes).ok()?;
+    let mut map = [0; MAP_WIDTH];
+    map.copy_from_slice(reader::map(bytes));
+    Some(ToWrite {
+        head: HeadValues {
+            kind: head.kind,
+            number: head.number,
+            poss_dup: head.poss_dup,
+            poss_resend: head.poss_resend,
+        },
+        comp_id: reader::comp_id(bytes).to_vec(),
+        map,
+        body: reader::body(bytes).to_vec(),
+    })
+}
+
+/// The length of what the twin writes; 0 where it refuses.
+fn written_length(given: &ToWrite) -> usize {
+    let mut out = [0; wire::MOST];
+    writer::write(
+        &given.head,
+        &given.comp_id,
+        &given.map,
+        &given.body,
+        &mut out,
+    )
+    .unwrap_or(0)
+}
+
+fn valid_messages(tally: &mut Tally, rng: &mut Rng, until: u64) {
+    let mut kind = 0;
+    while tally.count() < until {
+        let comp_id = make::comp_id(rng);
+        let number = message_number(rng);
+        let mut bytes = make::message(rng, kind, number, &comp_id);
+        kind = (kind + 1) % 11;
+        let given = to_write(&bytes).expect("the maker makes good messages");
+        if rng.chance(20) {
+            let more = rng.index(70);
+            bytes.extend(rng.bytes(more));
+        }
+        hold_read(tally, &bytes);
+        hold_parts(tally, &bytes);
+        let huge = match rng.below(4) {
+            0 => usize::MAX,
+            1 => 1 << 32,
+            2 => 257 + rng.index(1 << 33),
+            _ => rng.draw() as usize | 1 << 63,
+        };
+        for position in (0..=44).chain([255, 256, huge]) {
+            hold_questions(tally, &bytes, position);
+        }
+        for room in rooms(rng, written_length(&given)) {
+            hold_write(tally, &given, room);
+        }
+    }
+}
+
+// ---- Writes, good and bad ----
+
+fn writes(tally: &mut Tally, rng: &mut Rng, until: u64) {
+    while tally.count() < until {
+        let comp_id = make::comp_id(rng);
+        let number = message_number(rng);
+        let kind = rng.below(11) as u8;
+        let (map, body) = make::map_and_body(rng, kind, &[]);
+        let mut given = ToWrite {
+            head: HeadValues {
+                kind,
+                number,
+                poss_dup: rng.below(2) as u8,
+                poss_resend: rng.below(2) as u8,
+            },
+            comp_id,
+            map,
+            body,
+        };
+        // Two faults now and then, to see the order of the refusals.
+        for _ in 0..[0, 1, 1, 1, 2, 2][rng.index(6)] {
+            fault(rng, &mut given);
+        }
+        let length = written_length(&given);
+        if length > 0 {
+            for room in rooms(rng, length) {
+                hold_write(tally, &given, room);
+            }
+            hold_write(tally, &given, rng.index(length));
+        } else {
+            hold_write(tally, &given, [0, 57, 200, wire::MOST][rng.index(4)]);
+        }
+    }
+}
+
+fn fault(rng: &mut Rng, given: &mut ToWrite) {
+    match rng.below(10) {
+        0 => given.head.kind = 8 + rng.below(6) as u8,
+        1 => given.head.kind = rng.byte(),
+        2 => given.head.number = 0,
+        3 => given.head.poss_dup = rng.byte(),
+        4 => given.head.poss_resend = rng.byte() % 4,
+        5 => given.comp_id = odd_comp_id(rng),
+        6 => {
+            let width = if rng.chance(80) { 48 } else { 256 };
+            let position = rng.index(width);
+            given.map[position / 8] ^= 0x80 >> (position % 8);
+        }
+        7 if !given.body.is_empty() => {
+            let at = rng.index(given.body.len());
+            given.body[at] = [0, 1, 31, 127, 255, rng.byte()][rng.index(6)];
+        }
+        8 => given.body.truncate(rng.index(given.body.len() + 1)),
+        _ => {
+            let most = if rng.chance(90) { 9 } else { 5000 };
+            let more = rng.index(most);
+            given.body.extend(rng.bytes(more));
+        }
+    }
+}
+
+/// A Comp ID that is mostly a bad one: empty, too long, a bad character.
+fn odd_comp_id(rng: &mut Rng) -> Vec<u8> {
+    let mut text = match rng.below(4) {
+        0 => Vec::new(),
+        1 => vec![b'A'; 11 + rng.index(4)],
+        _ => make::comp_id(rng),
+    };
+    if !text.is_empty() && rng.chance(50) {
+        let at = rng.index(text.len());
+        text[at] = [0, 31, 32, 126, 127, 128, 255][rng.index(7)];
+    }
+    text
+}
+
+// ---- Damage ----
+
+/// The shortest of a few random messages of a type, and the longest.
+fn short_and_long(rng: &mut Rng, kind: u8) -> (Vec<u8>, Vec<u8>) {
+    let mut all: Vec<Vec<u8>> = (0..40)
+        .map(|_| make::message(rng, kind, 7, b"RECORDER01"))
+        .collect();
+    all.sort_by_key(Vec::len);
+    (all[0].clone(), all[39].clone())
+}
+
+/// Every other value of every byte: every single bit is among them.
+fn every_damage(
+    tally: &mut Tally,
+    message: &[u8],
+    right_sum: bool,
+    mut hold: impl FnMut(&mut Tally, &[u8]),
+) {
+    for at in 0..message.len() {
+        for other in 1..=255 {
+            let mut bytes = message.to_vec();
+            bytes[at] ^= other;
+            if right_sum {
+                make::reseal(&mut bytes);
+            }
+            hold(tally, &bytes);
+        }
+    }
+}
+
+fn damage(tally: &mut Tally, rng: &mut Rng, until: u64) {
+    let both: Vec<_> = (0..11).map(|kind| short_and_long(rng, kind)).collect();
+    for (short, _) in &both {
+        every_damage(tally, short, false, hold_read);
+        every_damage(tally, short, true, |tally, bytes| {
+            hold_read(tally, bytes);
+            if rng.chance(5) {
+                hold_questions(tally, bytes, rng.index(45));
+            }
+        });
+    }
+    let (_, long_report) = &both[10];
+    every_damage(tally, long_report, false, hold_read);
+    every_damage(tally, long_report, true, hold_read);
+
+    let until = tally.count() + until;
+    while tally.count() < until {
+        let comp_id = make::comp_id(rng);
+        let kind = rng.below(11) as u8;
+        let number = message_number(rng);
+        let whole = make::message(rng, kind, number, &comp_id);
+        let bytes = make::spoil(rng, &whole);
+        hold_read(tally, &bytes);
+        hold_parts(tally, &bytes);
+        hold_questions(tally, &bytes, rng.index(45));
+        hold_questions(tally, &bytes, rng.index(300));
+        let session = session::Session {
+            phase: [Phase::Waiting, Phase::Live][rng.index(2)],
+            comp_id,
+            e: [number, rng.any_u32().max(1)][rng.index(2)],
+            o: rng.any_u32().max(2),
+            m: 0,
+        };
+        hold_step(tally, struct_of(&session), &bytes);
+        // The damaged map and body for the writer, where there are any.
+        if bytes.len() >= BODY_AT + TRAILER {
+            let mut map = [0; MAP_WIDTH];
+            map.copy_from_slice(&bytes[wire::MAP_AT..BODY_AT]);
+            let given = ToWrite {
+                head: HeadValues {
+                    kind: bytes[3],
+                    number: number.max(1),
+                    poss_dup: 0,
+                    poss_resend: 1,
+                },
+                comp_id: session.comp_id,
+                map,
+                body: bytes[BODY_AT..bytes.len() - TRAILER].to_vec(),
+            };
+            let length = written_length(&given);
+            hold_write(tally, &given, rooms(rng, length)[rng.index(3)]);
+        }
+    }
+}
+
+// ---- Histories ----
+
+/// A password that Connect should refuse: too long, or with a bad character.
+fn odd_password(rng: &mut Rng) -> Vec<u8> {
+    let mut password = rng.text(449);
+    if rng.chance(30) {
+        password.resize(449 + rng.index(4), b'p');
+    }
+    if !password.is_empty() && rng.chance(60) {
+        let at = rng.index(password.len());
+        password[at] = [0, 31, 127, 128, 255][rng.index(5)];
+    }
+    password
+}
+
+fn histories(tally: &mut Tally, rng: &mut Rng, until: u64) {
+    while tally.count() < until {
+        let start = make::start(rng);
+        hold_fresh(tally, &start.comp_id);
+        let mut s = hold_saved(tally, &start.comp_id, start.e, start.o);
+        for event in make::events(rng, &start, 40) {
+            if rng.chance(5) {
+                // Calls beside the history: what they give is not kept.
+                hold_connect(tally, s, &odd_password(rng));
+                hold_drop(tally, s);
+            }
+            match event {
+                Event::Drop => s = hold_drop(tally, s),
+                Event::Connect(password) => {
+                    let answer = hold_connect(tally, s, &password);
+                    s = answer.session;
+                    if answer.refusal != 0 {
+                        continue;
+                    }
+                    let (number, next) = (answer.number, answer.next);
+                    let length = BODY_AT + tables::PASSWORD.width + 4 + TRAILER;
+                    for room in rooms(rng, length) {
+                        hold_put_logon(tally, s, number, &password, next, room);
+                    }
+                }
+                Event::Lend(bytes) => {
+                    let answer = hold_step(tally, s, &bytes);
+                    s = answer.session;
+                    for send in [answer.first, answer.second] {
+                        if send.kind == 0 {
+                            continue;
+                        }
+                        let length = length_of(&s, send);
+                        for room in rooms(rng, length) {
+                            hold_put(tally, s, send, room);
+                        }
+                    }
+                }
+            }
+        }
+    }
+}
+
+/// How many bytes a message to send has; 0 where there are none.
+fn length_of(s: &proved::Session, send: Send) -> usize {
+    match (session_of(s), send_of(send)) {
+        (Some(session), Some(send)) => send.bytes(&session.comp_id).map_or(0, |bytes| bytes.len()),
+        _ => 0,
+    }
+}
+
+// ---- Sessions that no day has ----
+
+fn small_or_any(rng: &mut Rng) -> u32 {
+    match rng.below(3) {
+        0 => rng.below(4) as u32,
+        _ => rng.any_u32(),
+    }
+}
+
+/// A session that some day may have, reached or not.
+fn some_session(rng: &mut Rng) -> session::Session {
+    let mut session = session::Session {
+        phase: [Phase::Down, Phase::Waiting, Phase::Live][rng.index(3)],
+        comp_id: make::comp_id(rng),
+        e: rng.any_u32().max(1),
+        o: rng.any_u32().max(3),
+        m: 0,
+    };
+    if session.phase == Phase::Live && rng.chance(50) {
+        let ahead = session.e.saturating_add(rng.below(5) as u32);
+        session.m = ahead.max(2);
+    }
+    session
+}
+
+/// One field made another, so that the struct may no longer be a session.
+fn bend(rng: &mut Rng, s: &mut proved::Session) {
+    match rng.below(6) {
+        0 => s.state = small_or_any(rng),
+        1 => {
+            let at = rng.index(12);
+            s.comp_id[at] = [0, 1, 31, 32, 126, 127, 128, 255][rng.index(8)];
+        }
+        2 => {
+            // Characters to the end, or a hole among them.
+            s.comp_id = [b'Z'; 12];
+            if rng.chance(70) {
+                s.comp_id[rng.index(12)] = 0;
+            }
+        }
+        3 => s.expected = small_or_any(rng),
+        4 => s.own = rng.below(5) as u32,
+        _ => {
+            s.ahead = match rng.below(5) {
+                0 => s.expected.wrapping_sub(1),
+                1 => s.expected,
+                2 => s.expected.wrapping_add(1),
+                _ => small_or_any(rng),
+            }
+        }
+    }
+}
+
+fn any_struct(rng: &mut Rng) -> proved::Session {
+    let mut s = proved::Session {
+        state: rng.draw() as u32,
+        expected: rng.any_u32(),
+        own: rng.any_u32(),
+        ahead: rng.any_u32(),
+        ..proved::Session::default()
+    };
+    for byte in &mut s.comp_id {
+        *byte = rng.byte();
+    }
+    s
+}
+
+/// A message to send, or what no session gives.
+fn any_send(rng: &mut Rng) -> Send {
+    Send {
+        kind: match rng.below(12) {
+            0 => rng.draw() as u32,
+            1 => 5,
+            _ => rng.below(5) as u32,
+        },
+        number: rng.any_u32(),
+        first: match rng.below(4) {
+            0 => rng.any_u32(),
+            1 => 65_534 + rng.below(4) as u32,
+            _ => rng.below(65_536) as u32,
+        },
+        second: rng.any_u32(),
+    }
+}
+
+fn odd_sessions(tally: &mut Tally, rng: &mut Rng, until: u64) {
+    while tally.count() < until {
+        let some = some_session(rng);
+        let mut s = struct_of(&some);
+        match rng.below(10) {
+            0 => s = any_struct(rng),
+            1 => {
+                bend(rng, &mut s);
+                bend(rng, &mut s);
+            }
+            2 | 3 => {}
+            _ => bend(rng, &mut s),
+        }
+        let bytes = make::arrival(rng, &some);
+        hold_step(tally, s, &bytes);
+        hold_drop(tally, s);
+        let password = if rng.chance(50) {
+            rng.text(449)
+        } else {
+            odd_password(rng)
+        };
+        hold_connect(tally, s, &password);
+        let send = any_send(rng);
+        for room in rooms(rng, length_of(&s, send)) {
+            hold_put(tally, s, send, room);
+        }
+        let number = rng.any_u32();
+        let next = rng.any_u32();
+        let room = 511 + rng.index(3);
+        hold_put_logon(tally, s, number, &password, next, room);
+
+        let comp_id = odd_comp_id(rng);
+        hold_fresh(tally, &comp_id);
+        // What stands beside a refusal is refused in its turn.
+        let made = hold_saved(tally, &comp_id, rng.any_u32(), rng.any_u32());
+        hold_drop(tally, made);
+    }
+}
+
+// ---- Plan ----
+
+fn plans(tally: &mut Tally, rng: &mut Rng, until: u64) {
+    while tally.count() < until {
+        let mut list = match rng.below(200) {
+            0 => make::list(rng, plan::LONGEST_LIST),
+            1 => vec![rng.below(2) as u8; plan::LONGEST_LIST - 1 + rng.index(3)],
+            2..=40 => make::list(rng, 1000),
+            _ => make::list(rng, 30),
+        };
+        if list.len() > 40_000 && rng.chance(20) {
+            let at = rng.index(list.len());
+            list[at] = 2;
+        }
+        let near = |rng: &mut Rng| match rng.below(5) {
+            0 => rng.any_u32(),
+            1 => (list.len() as u32 + 1).saturating_sub(rng.below(3) as u32),
+            _ => rng.below(list.len() as u64 + 2) as u32,
+        };
+        let (start, end) = (near(rng), near(rng));
+        let mut all = vec![[0; 2]; list.len()];
+        let needed = plan::plan(&list, start, end, &mut all).unwrap_or(0);
+        let room = match rng.below(5) {
+            0 => 2 * needed,
+            1 => (2 * needed).saturating_sub(1 + rng.index(3)),
+            2 => 2 * needed + rng.index(9),
+            3 => 0,
+            _ => rng.index(2 * needed + 3),
+        };
+        hold_plan(tally, &list, start, end, room);
+    }
+}
+
+/// Room is counted in numbers: an odd one at the end holds no pair.
+fn hold_plan(tally: &mut Tally, list: &[u8], start: u32, end: u32, room: usize) {
+    let mut its: Vec<u32> = (0..(GUARD + room + GUARD) as u32)
+        .map(|at| at.wrapping_mul(0x9E37_79B9) ^ 0x5555_5555)
+        .collect();
+    let mut ours = its.clone();
+    let lent = &mut ours[GUARD..GUARD + room];
+    let mut pairs: Vec<[u32; 2]> = lent
+        .chunks_exact(2)
+        .map(|pair| [pair[0], pair[1]])
+        .collect();
+    let answer = match plan::plan(list, start, end, &mut pairs) {
+        Ok(pairs) => Planned { refusal: 0, pairs },
+        Err(refusal) => Planned {
+            refusal: refusal.number,
+            pairs: refusal.besides as usize,
+        },
+    };
+    for (at, number) in pairs.concat().into_iter().enumerate() {
+        lent[at] = number;
+    }
+    let its_answer = proved::plan(list, start, end, &mut its[GUARD..GUARD + room]);
+    tally.hold(answer.refusal, (answer, ours), (its_answer, its), || {
+        format!(
+            "plan start {} end {} room {} list {}",
+            start,
+            end,
+            room,
+            hex(list)
+        )
+    });
+}
+
+// ---- CRC32C ----
+
+fn sums(tally: &mut Tally, rng: &mut Rng, until: u64) {
+    while tally.count() < until {
+        let most = if rng.chance(95) { 100 } else { 5000 };
+        let count = rng.index(most);
+        let bytes = rng.bytes(count);
+        tally.hold(0, crc::crc32c(&bytes), proved::crc32c(&bytes), || {
+            format!("crc32c {}", hex(&bytes))
+        });
+    }
+}
+
+// ---- Daysheet ----
+
+/// Runs the program on a sheet; what it printed.
+fn printed(command: &[&str], sheet: &[u8]) -> Vec<u8> {
+    let mut child = Command::new(command[0])
+        .args(&command[1..])
+        .stdin(Stdio::piped())
+        .stdout(Stdio::piped())
+        .spawn()
+        .expect("daysheet starts");
+    let mut pipe = child.stdin.take().expect("a pipe was asked for");
+    let sheet = sheet.to_vec();
+    // From another thread: it may print before it has read all. It ends at a
+    // bad line, so a pipe that is closed early is no fault.
+    let feeder = std::thread::spawn(move || {
+        let _ = pipe.write_all(&sheet);
+    });
+    let output = child.wait_with_output().expect("daysheet ends");
+    feeder.join().expect("the feeder does not panic");
+    output.stdout
+}
+
+/// Sheets of all sorts; every line is below 65,536 bytes.
+fn sheet(rng: &mut Rng) -> Vec<u8> {
+    let count = match rng.below(10) {
+        0 => rng.index(3),
+        1 => 300 + rng.index(300),
+        _ => rng.index(40),
+    };
+    let mut text = make::sheet(rng, count);
+    match rng.below(12) {
+        0 if !text.is_empty() => {
+            let at = rng.index(text.len());
+            text[at] = [b' ', b'\n', b'\r', b'0', b'9', b'=', 0, rng.byte()][rng.index(8)];
+        }
+        1 if !text.is_empty() => {
+            let at = rng.index(text.len());
+            text.remove(at);
+        }
+        2 => {
+            let zeros = "0".repeat(1 + rng.index(30));
+            let line = format!("kind=logon n={}1 dup={}0 new={}\n", zeros, zeros, zeros);
+            text.splice(0..0, line.into_bytes());
+        }
+        3 => {
+            let long = [200, 4096, 65_000, 65_535][rng.index(4)];
+            text.extend(vec![b'k'; long]);
+        }
+        4 => {
+            // The ends of the numbers.
+            for (kind, n, new) in [("logon", 1, 0), ("reset", 9, LAST), ("gapfill", LAST, LAST)] {
+                let line = format!("kind={} n={} dup=0 new={}\n", kind, n, new);
+                text.extend(line.into_bytes());
+            }
+        }
+        _ => {}
+    }
+    text
+}
+
+fn daysheets(tally: &mut Tally, rng: &mut Rng, command: &str, count: u64) {
+    let command: Vec<&str> = command.split_whitespace().collect();
+    let example = b"kind=logon n=1 dup=0 new=0
+kind=business n=2 dup=0 new=0
+kind=business n=5 dup=0 new=0
+kind=gapfill n=3 dup=1 new=5
+kind=business n=5 dup=1 new=0
+kind=business n=2 dup=1 new=0
+";
+    let mut text = example.to_vec();
+    for _ in 0..count {
+        let twin = String::from_utf8_lossy(&daysheet::daysheet(&text)).into_owned();
+        let proved = String::from_utf8_lossy(&printed(&command, &text)).into_owned();
+        tally.hold(0, twin, proved, || format!("daysheet {}", hex(&text)));
+        text = sheet(rng);
+    }
+}
+
+// ---- The run ----
+
+struct Options {
+    seed: u64,
+    count: u64,
+    sheets: u64,
+    daysheet: Option<String>,
+}
+
+fn options() -> Options {
+    let mut options = Options {
+        seed: 1,
+        count: 2_000_000,
+        sheets: 240,
+        daysheet: None,
+    };
+    let mut times = 1;
+    let mut words = std::env::args().skip(1);
+    while let Some(word) = words.next() {
+        let mut next = || words.next().unwrap_or_else(|| usage());
+        match word.as_str() {
+            "--seed" => options.seed = next().parse().unwrap_or_else(|_| usage()),
+            "--count" => options.count = next().parse().unwrap_or_else(|_| usage()),
+            "--long" => times = 10,
+            "--daysheet" => options.daysheet = Some(next()),
+            _ => usage(),
+        }
+    }
+    options.count *= times;
+    options.sheets *= times;
+    options
+}
+
+fn usage() -> ! {
+    eprintln!("compare [--seed N] [--count N] [--long] [--daysheet \"COMMAND..\"]");
+    exit(2);
+}
+
+fn main() {
+    let options = options();
+    println!("compare: seed {}", options.seed);
+    let mut tally = Tally::new();
+    let runs: [fn(&mut Tally, &mut Rng, u64); 8] = [
+        short_inputs,
+        valid_messages,
+        writes,
+        damage,
+        histories,
+        odd_sessions,
+        plans,
+        sums,
+    ];
+    // Each category has a generator of its own, so that none moves another.
+    let rng = |category: usize| {
+        let mut rng = Rng::new(options.seed);
+        for _ in 0..category {
+            rng.draw();
+        }
+        Rng::new(rng.draw())
+    };
+    for (category, run) in runs.iter().enumerate() {
+        tally.category = category;
+        let until = options.count / 100 * CATEGORIES[category].1;
+        run(&mut tally, &mut rng(category), until);
+    }
+    tally.category = runs.len();
+    match &options.daysheet {
+        Some(command) => daysheets(&mut tally, &mut rng(runs.len()), command, options.sheets),
+        None => println!("daysheet: skipped, --daysheet \"COMMAND..\" is not given"),
+    }
+    tally.end();
+}

@@ -1,0 +1,23 @@
+//! A twin of the drop copy recorder, written anew from two papers: document
+//! 01 (the rules) and source document 004 (the layouts). It shares nothing
+//! with the proved code and exists to be held against it.
+//!
+//! `reader`, `writer`, `session`, `plan` and `daysheet` follow the papers line
+//! by line and care for nothing but clearness. `plain` is a second decoder
+//! written for speed, only to be measured. `make` makes test input.
+
+#![forbid(unsafe_code)]
+
+pub mod crc;
+pub mod daysheet;
+pub mod make;
+pub mod plain;
+pub mod plan;
+pub mod reader;
+pub mod session;
+pub mod tables;
+pub mod wire;
+pub mod writer;
+
+#[cfg(test)]
+mod tests;

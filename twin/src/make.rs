@@ -1,0 +1,623 @@
+//! Makers of test input: a small deterministic generator, messages with random
+//! fields, damage, and session histories. Messages are framed here byte by
+//! byte and not by the writer, so that the writer can be tested with them, and
+//! so that texts may carry bytes after their null.
+
+use crate::crc::crc32c;
+use crate::session::{Phase, Session, LAST};
+use crate::tables::{self, Field, Sort};
+use crate::wire::{set, BODY_AT, COMP_ID_WIDTH, LEAST, MAP_WIDTH, MOST, START, TRAILER};
+
+/// splitmix64.
+#[derive(Clone, Debug)]
+pub struct Rng(u64);
+
+impl Rng {
+    pub fn new(seed: u64) -> Rng {
+        Rng(seed)
+    }
+
+    pub fn draw(&mut self) -> u64 {
+        self.0 = self.0.wrapping_add(0x9E37_79B9_7F4A_7C15);
+        let mut z = self.0;
+        z = (z ^ (z >> 30)).wrapping_mul(0xBF58_476D_1CE4_E5B9);
+        z = (z ^ (z >> 27)).wrapping_mul(0x94D0_49BB_1331_11EB);
+        z ^ (z >> 31)
+    }
+
+    /// A number below `bound`, which is not 0.
+    pub fn below(&mut self, bound: u64) -> u64 {
+        self.draw() % bound
+    }
+
+    /// An index below `bound`, which is not 0.
+    pub fn index(&mut self, bound: usize) -> usize {
+        self.below(bound as u64) as usize
+    }
+
+    /// True `per` times in a hundred.
+    pub fn chance(&mut self, per: u64) -> bool {
+        self.below(100) < per
+    }
+
+    pub fn byte(&mut self) -> u8 {
+        self.draw() as u8
+    }
+
+    pub fn bytes(&mut self, count: usize) -> Vec<u8> {
+        (0..count).map(|_| self.byte()).collect()
+    }
+
+    /// A number of a width in bytes, often at the ends of its range.
+    pub fn value(&mut self, width: usize) -> u64 {
+        let most = u64::MAX >> (64 - 8 * width);
+        match self.below(6) {
+            0 => 0,
+            1 => most,
+            2 => self.below(4) & most,
+            3 => 1 << (8 * width - 1),
+            _ => self.draw() & most,
+        }
+    }
+
+    /// A full 32-bit number, often small or near the last one.
+    pub fn any_u32(&mut self) -> u32 {
+        match self.below(4) {
+            0 => self.below(6) as u32,
+            1 => LAST - self.below(6) as u32,
+            _ => self.draw() as u32,
+        }
+    }
+
+    /// Characters 32 to 126, often none or as many as there is room for.
+    pub fn text(&mut self, most: usize) -> Vec<u8> {
+        let count = match self.below(5) {
+            0 => 0,
+            1 => most,
+            _ => self.index(most + 1),
+        };
+        (0..count)
+            .map(|_| match self.below(8) {
+                0 => 32,
+                1 => 126,
+                _ => 32 + self.below(95) as u8,
+            })
+            .collect()
+    }
+}
+
+/// A fixed text's bytes: the characters, a null, then zeros or anything.
+pub fn fixed_text(rng: &mut Rng, text: &[u8], width: usize) -> Vec<u8> {
+    let mut bytes = text.to_vec();
+    bytes.push(0);
+    let zeros = rng.chance(50);
+    while bytes.len() < width {
+        bytes.push(if zeros { 0 } else { rng.byte() });
+    }
+    bytes
+}
+
+/// A variable text's bytes: the length, the characters, a null, and now and
+/// then anything after it inside the length.
+pub fn variable_text(rng: &mut Rng, text: &[u8], most: usize) -> Vec<u8> {
+    let room = most - text.len() - 1;
+    let more = if rng.chance(50) {
+        0
+    } else {
+        rng.index(room + 1)
+    };
+    let length = (text.len() + 1 + more) as u16;
+    let mut bytes = length.to_le_bytes().to_vec();
+    bytes.extend_from_slice(text);
+    bytes.push(0);
+    bytes.extend(rng.bytes(more));
+    bytes
+}
+
+/// Random good bytes for a field.
+pub fn field(rng: &mut Rng, field: Field) -> Vec<u8> {
+    match field.sort {
+        Sort::Byte if field.name == tables::GAP_FILL.name => {
+            vec![if rng.chance(50) { b'Y' } else { b'N' }]
+        }
+        Sort::Number | Sort::Byte | Sort::Decimal => {
+            rng.value(field.width).to_le_bytes()[..field.width].to_vec()
+        }
+        Sort::Fixed => {
+            let text = rng.text(field.width - 1);
+            fixed_text(rng, &text, field.width)
+        }
+        Sort::Variable => {
+            let text = rng.text(field.width - 1);
+            variable_text(rng, &text, field.width)
+        }
+    }
+}
+
+/// The header values of a message to make.
+#[derive(Clone, Copy, Debug)]
+pub struct Given<'a> {
+    pub kind: u8,
+    pub number: u32,
+    pub poss_dup: u8,
+    pub poss_resend: u8,
+    /// Characters, without a null.
+    pub comp_id: &'a [u8],
+}
+
+/// Lays a message out and gives it its checksum, whatever the values are.
+pub fn frame(given: &Given, comp_id: &[u8], map: &[u8; MAP_WIDTH], body: &[u8]) -> Vec<u8> {
+    let length = BODY_AT + body.len() + TRAILER;
+    let mut bytes = vec![START];
+    bytes.extend_from_slice(&(length as u16).to_le_bytes());
+    bytes.push(given.kind);
+    bytes.extend_from_slice(&given.number.to_le_bytes());
+    bytes.push(given.poss_dup);
+    bytes.push(given.poss_resend);
+    bytes.extend_from_slice(comp_id);
+    bytes.extend_from_slice(map);
+    bytes.extend_from_slice(body);
+    let sum = crc32c(&bytes);
+    bytes.extend_from_slice(&sum.to_le_bytes());
+    bytes
+}
+
+/// A random map and body of a type. `fixed` settles positions: bytes to stand
+/// there, or None for a clear position.
+pub fn map_and_body(
+    rng: &mut Rng,
+    kind: u8,
+    fixed: &[(usize, Option<Vec<u8>>)],
+) -> ([u8; MAP_WIDTH], Vec<u8>) {
+    let mut map = [0; MAP_WIDTH];
+    let mut body = Vec::new();
+    // All, none or some of the fields that may be left out.
+    let per = match rng.below(6) {
+        0 => 100,
+        1 => 0,
+        _ => 50,
+    };
+    for position in 0..256 {
+        let entry = match tables::find(kind, position) {
+            Some(entry) => entry,
+            None => continue,
+        };
+        let settled = fixed.iter().find(|(p, _)| *p == position);
+        let bytes = match settled {
+            Some((_, bytes)) => bytes.clone(),
+            None if entry.required || rng.chance(per) => Some(field(rng, entry.field)),
+            None => None,
+        };
+        if let Some(bytes) = bytes {
+            set(&mut map, position);
+            body.extend_from_slice(&bytes);
+        }
+    }
+    (map, body)
+}
+
+/// A good message with some fields settled.
+pub fn message_with(rng: &mut Rng, given: &Given, fixed: &[(usize, Option<Vec<u8>>)]) -> Vec<u8> {
+    let (map, body) = map_and_body(rng, given.kind, fixed);
+    let comp_id = fixed_text(rng, given.comp_id, COMP_ID_WIDTH);
+    frame(given, &comp_id, &map, &body)
+}
+
+/// A good message of a type with random fields that may be left out, random
+/// values and random flags.
+pub fn message(rng: &mut Rng, kind: u8, number: u32, comp_id: &[u8]) -> Vec<u8> {
+    let given = Given {
+        kind,
+        number,
+        poss_dup: rng.below(2) as u8,
+        poss_resend: rng.below(2) as u8,
+        comp_id,
+    };
+    message_with(rng, &given, &[])
+}
+
+/// A good Comp ID: 1 to 11 characters.
+pub fn comp_id(rng: &mut Rng) -> Vec<u8> {
+    loop {
+        let text = rng.text(COMP_ID_WIDTH - 1);
+        if !text.is_empty() {
+            return text;
+        }
+    }
+}
+
+/// Makes the checksum right again for the Length that stands there; nothing if
+/// that Length does not fit the bytes.
+pub fn reseal(bytes: &mut [u8]) {
+    if bytes.len() < LEAST {
+        return;
+    }
+    let length = usize::from(u16::from_le_bytes([bytes[1], bytes[2]]));
+    if length < LEAST || length > bytes.len() {
+        return;
+    }
+    let at = length - TRAILER;
+    let sum = crc32c(&bytes[..at]).to_le_bytes();
+    bytes[at..length].copy_from_slice(&sum);
+}
+
+/// Lets the Length tell the bytes there are, and the checksum the sum.
+fn refit(bytes: &mut [u8]) {
+    let length = bytes.len() as u16;
+    if bytes.len() >= LEAST {
+        bytes[1..3].copy_from_slice(&length.to_le_bytes());
+        reseal(bytes);
+    }
+}
+
+/// Spoils a message in one place, in half of the cases with the checksum made
+/// right again.
+pub fn spoil(rng: &mut Rng, message: &[u8]) -> Vec<u8> {
+    let mut bytes = message.to_vec();
+    if bytes.is_empty() {
+        return bytes;
+    }
+    let right_sum = rng.chance(50);
+    match rng.below(10) {
+        // A single bit.
+        0 | 1 => {
+            let at = rng.index(bytes.len());
+            bytes[at] ^= 1 << rng.below(8);
+        }
+        // A single byte, anywhere.
+        2 | 3 => {
+            let at = rng.index(bytes.len());
+            bytes[at] = rng.byte();
+        }
+        // A single byte of the header before the map.
+        4 => {
+            let at = rng.index(bytes.len().min(22));
+            bytes[at] = match rng.below(3) {
+                0 => 0,
+                1 => 2,
+                _ => rng.byte(),
+            };
+        }
+        // A bit of the map, mostly among the positions in use.
+        5 => {
+            let width = if rng.chance(80) { 48 } else { 256 };
+            let position = rng.index(width);
+            if bytes.len() > 22 + position / 8 {
+                bytes[22 + position / 8] ^= 0x80 >> (position % 8);
+            }
+        }
+        // Cut short; with a right sum the Length is made to fit.
+        6 => {
+            bytes.truncate(rng.index(bytes.len() + 1));
+            if right_sum {
+                refit(&mut bytes);
+            }
+            return bytes;
+        }
+        // Bytes put in or taken out of the body, the Length made to fit.
+        7 => {
+            let at = BODY_AT.min(bytes.len()) + rng.index(bytes.len().saturating_sub(57).max(1));
+            let at = at.min(bytes.len());
+            if rng.chance(50) {
+                let more = 1 + rng.index(9);
+                let more = rng.bytes(more);
+                bytes.splice(at..at, more);
+            } else {
+                let end = (at + 1 + rng.index(9)).min(bytes.len());
+                bytes.drain(at..end);
+            }
+            if right_sum {
+                refit(&mut bytes);
+            }
+            return bytes;
+        }
+        // Another Length: anything, the borders, a little more or less; bytes
+        // may follow so that it can be reached.
+        8 => {
+            if bytes.len() >= 3 {
+                let was = u16::from_le_bytes([bytes[1], bytes[2]]);
+                let length = match rng.below(5) {
+                    0 => rng.draw() as u16,
+                    1 => 57 + rng.below(2) as u16,
+                    2 => (MOST as u64 + rng.below(2)) as u16,
+                    3 => was.wrapping_add(1 + rng.below(8) as u16),
+                    _ => was.wrapping_sub(1 + rng.below(8) as u16),
+                };
+                bytes[1..3].copy_from_slice(&length.to_le_bytes());
+                if rng.chance(50) {
+                    let more = rng.index(MOST + 1);
+                    bytes.extend(rng.bytes(more));
+                }
+            }
+        }
+        // Bytes after the message: no damage at all to the front.
+        _ => {
+            let more = rng.index(80);
+            bytes.extend(rng.bytes(more));
+            return bytes;
+        }
+    }
+    if right_sum {
+        reseal(&mut bytes);
+    }
+    bytes
+}
+
+/// What is done to a session.
+#[derive(Clone, Debug)]
+pub enum Event {
+    Connect(Vec<u8>),
+    Drop,
+    Lend(Vec<u8>),
+}
+
+/// Where a history begins: our Comp ID and the saved E and O.
+#[derive(Clone, Debug)]
+pub struct Start {
+    pub comp_id: Vec<u8>,
+    pub e: u32,
+    pub o: u32,
+}
+
+/// A saved number: fresh, anywhere, or close to the last one.
+fn saved_number(rng: &mut Rng) -> u32 {
+    match rng.below(4) {
+        0 => 1,
+        1 => 1 + rng.below(50) as u32,
+        2 => LAST - rng.below(8) as u32,
+        _ => (rng.draw() as u32).max(1),
+    }
+}
+
+pub fn start(rng: &mut Rng) -> Start {
+    Start {
+        comp_id: comp_id(rng),
+        e: saved_number(rng),
+        o: saved_number(rng),
+    }
+}
+
+fn bytes_of(value: u32) -> Option<Vec<u8>> {
+    Some(value.to_le_bytes().to_vec())
+}
+
+/// A number a little above n, staying in range.
+fn above(rng: &mut Rng, n: u32) -> u32 {
+    n.saturating_add(1 + rng.below(4) as u32)
+}
+
+/// A number below n, at least 1; n itself if that is 1.
+fn below(rng: &mut Rng, n: u32) -> u32 {
+    if n <= 1 {
+        return n;
+    }
+    n - 1 - rng.below(u64::from((n - 1).min(6))) as u32
+}
+
+/// A number that a gateway in its right mind gives, mostly E.
+fn likely_number(rng: &mut Rng, e: u32) -> u32 {
+    match rng.below(20) {
+        0..=13 => e,
+        14..=18 => above(rng, e),
+        _ => below(rng, e),
+    }
+}
+
+/// Start and End of a Resend Request, mostly inside what we have sent.
+fn resend_range(rng: &mut Rng, o: u32) -> (u32, u32) {
+    if rng.chance(5) {
+        return (rng.any_u32(), rng.any_u32());
+    }
+    let start = below(rng, o).max(1);
+    let end = match rng.below(6) {
+        0 | 1 => 0,
+        2 => start,
+        3 => o.saturating_sub(1).max(start),
+        4 => LAST - rng.below(2) as u32,
+        _ => start.saturating_add(rng.below(5) as u32),
+    };
+    (start, end)
+}
+
+/// The gateway's next message to a session in this state, likely or not.
+pub fn arrival(rng: &mut Rng, session: &Session) -> Vec<u8> {
+    let (e, o) = (session.e, session.o);
+    let comp_id = &session.comp_id[..];
+    let mut given = Given {
+        kind: 0,
+        number: likely_number(rng, e),
+        poss_dup: 0,
+        poss_resend: rng.chance(10) as u8,
+        comp_id,
+    };
+    // What lies behind mostly says so.
+    given.poss_dup = rng.chance(if given.number < e { 90 } else { 20 }) as u8;
+    let mut fixed = Vec::new();
+    if session.phase == Phase::Waiting && !rng.chance(10) {
+        // The Logon, mostly a good one.
+        given.kind = 5;
+        let next_expected = match rng.below(12) {
+            0 => 0,
+            1 => above(rng, o),
+            2..=5 => below(rng, o).max(1),
+            _ => o,
+        };
+        fixed.push((2, bytes_of(next_expected)));
+    } else {
+        match rng.below(100) {
+            0..=39 => given.kind = 9 + rng.below(2) as u8,
+            40..=54 => {
+                given.kind = 4;
+                let new = match rng.below(20) {
+                    0 => given.number,
+                    1 => rng.any_u32(),
+                    _ => above(rng, given.number),
+                };
+                fixed.push((0, Some(vec![b'Y'])));
+                fixed.push((1, bytes_of(new)));
+            }
+            55..=61 => {
+                given.kind = 4;
+                let new = match rng.below(20) {
+                    0..=2 => e,
+                    3 => below(rng, e),
+                    4 => rng.any_u32(),
+                    _ => above(rng, e),
+                };
+                fixed.push((
+                    0,
+                    if rng.chance(50) {
+                        Some(vec![b'N'])
+                    } else {
+                        None
+                    },
+                ));
+                fixed.push((1, bytes_of(new)));
+                if rng.chance(50) {
+                    given.number = rng.any_u32().max(1);
+                }
+            }
+            62..=71 => given.kind = 1,
+            72..=81 => {
+                given.kind = 2;
+                let (first, last) = resend_range(rng, o);
+                fixed.push((0, bytes_of(first)));
+                fixed.push((1, bytes_of(last)));
+            }
+            82..=89 => given.kind = 0,
+            90..=94 => given.kind = 3,
+            95 | 96 => given.kind = 6,
+            97 => given.kind = [5, 7, 8][rng.index(3)],
+            _ => given.kind = rng.below(11) as u8,
+        }
+    }
+    // Another Comp ID: anything, one that ours begins, one that begins ours.
+    let other;
+    if rng.chance(2) {
+        other = match rng.below(3) {
+            0 => self::comp_id(rng),
+            1 => comp_id[..comp_id.len().max(2) - 1].to_vec(),
+            _ => [comp_id, b"X"].concat()[..(comp_id.len() + 1).min(11)].to_vec(),
+        };
+        given.comp_id = &other;
+    }
+    let mut bytes = message_with(rng, &given, &fixed);
+    if rng.chance(4) {
+        bytes = spoil(rng, &bytes);
+    } else if rng.chance(10) {
+        // The next message may already stand behind.
+        let more = rng.index(70);
+        bytes.extend(rng.bytes(more));
+    }
+    bytes
+}
+
+/// A history with connects and drops, `count` events long, or shorter where the
+/// numbers are spent. The twin's own session is led along, so that the numbers
+/// stay close to what is expected.
+pub fn events(rng: &mut Rng, start: &Start, count: usize) -> Vec<Event> {
+    let mut session =
+        Session::saved(&start.comp_id, start.e, start.o).expect("a start is a good state");
+    let mut all = Vec::new();
+    let mut spent = 0;
+    while all.len() < count && spent < 3 {
+        let down = session.phase == Phase::Down;
+        if down && (session.o == LAST || session.e == LAST) {
+            spent += 1;
+        }
+        let event = match rng.below(100) {
+            0 => Event::Drop,
+            1 => Event::Connect(rng.text(451)),
+            2 => Event::Lend(arrival(rng, &session)),
+            _ if down => Event::Connect(rng.text(449)),
+            _ => Event::Lend(arrival(rng, &session)),
+        };
+        match &event {
+            Event::Connect(password) => {
+                let _ = session.connect(password);
+            }
+            Event::Drop => session.drop(),
+            Event::Lend(bytes) => {
+                session.step(bytes);
+            }
+        }
+        all.push(event);
+    }
+    all
+}
+
+/// A history of messages alone, for a session that was made from `start` and
+/// then connected; it ends early if that session goes Down, after two messages
+/// more.
+pub fn history(rng: &mut Rng, start: &Start, count: usize) -> Vec<Vec<u8>> {
+    let mut session =
+        Session::saved(&start.comp_id, start.e, start.o).expect("a start is a good state");
+    let _ = session.connect(b"");
+    let mut all = Vec::new();
+    let mut after = 0;
+    while all.len() < count && after < 2 {
+        if session.phase == Phase::Down {
+            after += 1;
+        }
+        let bytes = arrival(rng, &session);
+        session.step(&bytes);
+        all.push(bytes);
+    }
+    all
+}
+
+/// A list for the resend plan, now and then a bad one.
+pub fn list(rng: &mut Rng, most: usize) -> Vec<u8> {
+    let count = rng.index(most + 1);
+    let business = [0, 10, 50, 90, 100][rng.index(5)];
+    let mut list: Vec<u8> = (0..count).map(|_| rng.chance(business) as u8).collect();
+    if count > 0 && rng.chance(3) {
+        let at = rng.index(count);
+        list[at] = rng.byte();
+    }
+    list
+}
+
+/// Lines for daysheet, now and then a bad one.
+pub fn sheet(rng: &mut Rng, count: usize) -> Vec<u8> {
+    let mut text = Vec::new();
+    let mut n = 1u32;
+    for index in 0..count {
+        let kind = if index == 0 && rng.chance(95) {
+            "logon"
+        } else {
+            match rng.below(40) {
+                0 => "logon",
+                1..=5 => "gapfill",
+                6 | 7 => "reset",
+                _ => "business",
+            }
+        };
+        let at = likely_number(rng, n);
+        let dup = (at < n && rng.chance(90)) as u8;
+        let new = if kind == "gapfill" || kind == "reset" {
+            above(rng, at)
+        } else {
+            0
+        };
+        let mut line = format!("kind={} n={} dup={} new={}", kind, at, dup, new).into_bytes();
+        if rng.chance(1) {
+            match rng.below(6) {
+                0 => line.push(b' '),
+                1 => line = rng.text(40),
+                2 => line = format!("kind=business n={} dup=2 new=0", at).into_bytes(),
+                3 => line = b"kind=business n=4294967296 dup=0 new=0".to_vec(),
+                4 => line = b"kind=business n=0 dup=0 new=0".to_vec(),
+                _ => line = format!("kind=logon n={} dup=0 new=1", at).into_bytes(),
+            }
+        }
+        text.extend_from_slice(&line);
+        if index + 1 < count || rng.chance(80) {
+            text.push(b'\n');
+        }
+        if at == n {
+            n = if new > n { new } else { n.saturating_add(1) };
+        }
+    }
+    text
+}

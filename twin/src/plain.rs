@@ -1,0 +1,690 @@
+//! A second decoder and session, written for speed and only to be measured.
+//! Its answers are those of `reader` and `session`; its tables are typed anew.
+
+use crate::reader::Head;
+use crate::session::{Answer, Logon, Phase, Row, RowSort, Send, NOTHING, NO_ROW};
+use crate::wire::Refusal;
+
+// ---- CRC32C, eight bytes at a time ----
+
+const fn crc_tables() -> [[u32; 256]; 8] {
+    let mut tables = [[0u32; 256]; 8];
+    let mut i = 0;
+    while i < 256 {
+        let mut crc = i as u32;
+        let mut bit = 0;
+        while bit < 8 {
+            crc = (crc >> 1) ^ (0x82F6_3B78 & (0u32.wrapping_sub(crc & 1)));
+            bit += 1;
+        }
+        tables[0][i] = crc;
+        i += 1;
+    }
+    let mut t = 1;
+    while t < 8 {
+        let mut i = 0;
+        while i < 256 {
+            let before = tables[t - 1][i];
+            tables[t][i] = (before >> 8) ^ tables[0][(before & 0xFF) as usize];
+            i += 1;
+        }
+        t += 1;
+    }
+    tables
+}
+
+static CRC: [[u32; 256]; 8] = crc_tables();
+
+/// CRC32C by slicing.
+pub fn crc32c(bytes: &[u8]) -> u32 {
+    let mut crc = !0u32;
+    let mut chunks = bytes.chunks_exact(8);
+    for chunk in &mut chunks {
+        let word = u64_at(chunk, 0) ^ u64::from(crc);
+        crc = CRC[7][(word & 0xFF) as usize]
+            ^ CRC[6][(word >> 8 & 0xFF) as usize]
+            ^ CRC[5][(word >> 16 & 0xFF) as usize]
+            ^ CRC[4][(word >> 24 & 0xFF) as usize]
+            ^ CRC[3][(word >> 32 & 0xFF) as usize]
+            ^ CRC[2][(word >> 40 & 0xFF) as usize]
+            ^ CRC[1][(word >> 48 & 0xFF) as usize]
+            ^ CRC[0][(word >> 56) as usize];
+    }
+    for &byte in chunks.remainder() {
+        crc = (crc >> 8) ^ CRC[0][((crc ^ u32::from(byte)) & 0xFF) as usize];
+    }
+    !crc
+}
+
+// ---- Loads ----
+
+#[inline(always)]
+fn u16_at(b: &[u8], at: usize) -> u16 {
+    u16::from_le_bytes([b[at], b[at + 1]])
+}
+
+#[inline(always)]
+fn u32_at(b: &[u8], at: usize) -> u32 {
+    let b = &b[at..at + 4];
+    u32::from_le_bytes([b[0], b[1], b[2], b[3]])
+}
+
+#[inline(always)]
+fn u64_at(b: &[u8], at: usize) -> u64 {
+    let b = &b[at..at + 8];
+    u64::from_le_bytes([b[0], b[1], b[2], b[3], b[4], b[5], b[6], b[7]])
+}
+
+/// A map word with position 0 as its top bit.
+#[inline(always)]
+fn map_at(b: &[u8], at: usize) -> u64 {
+    u64_at(b, at).swap_bytes()
+}
+
+// ---- Tables ----
+
+#[derive(Clone, Copy, PartialEq, Eq)]
+enum Kind {
+    /// Any value: only the width counts.
+    Any,
+    GapFill,
+    Fixed,
+    Variable,
+}
+
+#[derive(Clone, Copy)]
+struct Shape {
+    kind: Kind,
+    width: u16,
+}
+
+const fn any(width: u16) -> Shape {
+    Shape {
+        kind: Kind::Any,
+        width,
+    }
+}
+const fn fix(width: u16) -> Shape {
+    Shape {
+        kind: Kind::Fixed,
+        width,
+    }
+}
+const fn var(width: u16) -> Shape {
+    Shape {
+        kind: Kind::Variable,
+        width,
+    }
+}
+const GAP: Shape = Shape {
+    kind: Kind::GapFill,
+    width: 1,
+};
+
+/// Position, shape, required.
+type Line = (u32, Shape, bool);
+
+const LINES: [&[Line]; 11] = [
+    // 0 Heartbeat
+    &[(0, any(2), false)],
+    // 1 Test Request
+    &[(0, any(2), true)],
+    // 2 Resend Request
+    &[(0, any(4), true), (1, any(4), true)],
+    // 3 Reject
+    &[
+        (0, any(2), true),
+        (1, var(75), false),
+        (2, any(1), false),
+        (3, fix(50), false),
+        (4, any(4), true),
+        (5, fix(21), false),
+    ],
+    // 4 Sequence Reset
+    &[(0, GAP, false), (1, any(4), true)],
+    // 5 Logon
+    &[
+        (0, fix(450), false),
+        (1, fix(450), false),
+        (2, any(4), true),
+        (3, any(1), false),
+        (4, var(50), false),
+        (5, any(1), false),
+    ],
+    // 6 Logout
+    &[(0, var(75), false), (1, any(1), false)],
+    // 7 Lookup Request
+    &[(0, any(1), true), (1, any(1), true)],
+    // 8 Lookup Response
+    &[
+        (0, any(1), true),
+        (1, any(1), false),
+        (2, var(75), false),
+        (3, fix(16), false),
+        (4, any(2), false),
+        (5, fix(16), false),
+        (6, any(2), false),
+    ],
+    // 9 Business Message Reject
+    &[
+        (0, any(2), true),
+        (1, var(75), false),
+        (2, any(1), true),
+        (3, fix(50), false),
+        (4, any(4), false),
+        (5, fix(21), false),
+    ],
+    // 10 Execution Report: the nine tables as one
+    &[
+        (0, fix(21), false),  // Client Order ID
+        (1, fix(12), true),   // Submitting Broker ID
+        (2, fix(21), true),   // Security ID
+        (3, any(1), true),    // Security ID Source
+        (4, fix(5), false),   // Security Exchange
+        (5, fix(11), false),  // Broker Location ID
+        (6, fix(25), true),   // Transaction Time
+        (7, any(1), true),    // Side
+        (8, fix(21), false),  // Original Client Order ID
+        (9, fix(21), true),   // Order ID
+        (11, any(1), false),  // Order Type
+        (12, any(8), false),  // Price
+        (13, any(8), false),  // Order Quantity
+        (14, any(1), false),  // Time In Force
+        (15, any(1), false),  // Position Effect
+        (16, fix(21), false), // Order Restrictions
+        (17, any(1), false),  // Max Price Levels
+        (18, any(1), false),  // Order Capacity
+        (19, var(50), false), // Text
+        (20, var(75), false), // Reason
+        (21, fix(21), true),  // Execution ID
+        (22, any(1), true),   // Order Status
+        (23, any(1), true),   // Exec Type
+        (24, any(8), true),   // Cumulative Quantity
+        (25, any(8), true),   // Leaves Quantity
+        (27, any(1), false),  // Lot Type
+        (28, any(2), false),  // Exec Restatement Reason
+        (30, any(1), false),  // Match Type
+        (31, fix(12), false), // Counterparty Broker ID
+        (32, any(8), false),  // Execution Quantity
+        (33, any(8), false),  // Execution Price
+        (34, fix(21), false), // Reference Execution ID
+        (35, any(1), false),  // Order Category
+        (37, any(1), true),   // Copy Message Indicator
+        (38, fix(25), false), // Trade Match ID
+        (39, any(1), false),  // Exchange Trade Type
+        (42, any(1), false),  // Aggressor Indicator
+        (43, fix(10), false), // SMP ID
+    ],
+];
+
+const TOP: u64 = 1 << 63;
+
+/// All that the walk needs to know of a type. Every position is below 64.
+struct Layout {
+    known: u64,
+    required: u64,
+    shapes: [Shape; 64],
+}
+
+const fn layout(lines: &[Line]) -> Layout {
+    let mut layout = Layout {
+        known: 0,
+        required: 0,
+        shapes: [any(0); 64],
+    };
+    let mut i = 0;
+    while i < lines.len() {
+        let (position, shape, required) = lines[i];
+        layout.known |= TOP >> position;
+        if required {
+            layout.required |= TOP >> position;
+        }
+        layout.shapes[position as usize] = shape;
+        i += 1;
+    }
+    layout
+}
+
+static LAYOUTS: [Layout; 11] = [
+    layout(LINES[0]),
+    layout(LINES[1]),
+    layout(LINES[2]),
+    layout(LINES[3]),
+    layout(LINES[4]),
+    layout(LINES[5]),
+    layout(LINES[6]),
+    layout(LINES[7]),
+    layout(LINES[8]),
+    layout(LINES[9]),
+    layout(LINES[10]),
+];
+
+// ---- Texts ----
+
+/// Where the null stands, if only characters stand before it. Eight bytes are
+/// looked at together: the first byte outside 32 to 126 decides.
+#[inline]
+fn text_end(bytes: &[u8]) -> Option<usize> {
+    const ONES: u64 = 0x0101_0101_0101_0101;
+    const HIGH: u64 = 0x80 * ONES;
+    let mut at = 0;
+    while at + 8 <= bytes.len() {
+        let word = u64_at(bytes, at);
+        let low7 = word & !HIGH;
+        // Each sum stays inside its byte, so every flag is exact.
+        let above = (low7 + ONES) | word;
+        let below = !((low7 + 0x60 * ONES) | word);
+        let outside = (above | below) & HIGH;
+        if outside != 0 {
+            let at = at + outside.trailing_zeros() as usize / 8;
+            return if bytes[at] == 0 { Some(at) } else { None };
+        }
+        at += 8;
+    }
+    while at < bytes.len() {
+        let byte = bytes[at];
+        if byte.wrapping_sub(32) > 126 - 32 {
+            return if byte == 0 { Some(at) } else { None };
+        }
+        at += 1;
+    }
+    None
+}
+
+// ---- Reader ----
+
+#[cold]
+fn refused<T>(number: u32, besides: usize) -> Result<T, Refusal> {
+    Err(Refusal {
+        number,
+        besides: besides as u32,
+    })
+}
+
+/// A read message: the header, how long the Comp ID is, the map's first word.
+struct Seen {
+    head: Head,
+    comp_id_end: usize,
+    map: u64,
+}
+
+#[inline]
+fn walk(layout: &Layout, mut map: u64, body: &[u8]) -> Result<(), Refusal> {
+    let mut rest = body;
+    while map != 0 {
+        let position = (map.leading_zeros() & 63) as usize;
+        map ^= TOP >> position;
+        let shape = layout.shapes[position];
+        let width = usize::from(shape.width);
+        let used = match shape.kind {
+            Kind::Any => width,
+            Kind::GapFill => {
+                if rest.is_empty() || (rest[0] != b'Y' && rest[0] != b'N') {
+                    return refused(9, position);
+                }
+                1
+            }
+            Kind::Fixed => {
+                if rest.len() < width || text_end(&rest[..width]).is_none() {
+                    return refused(9, position);
+                }
+                width
+            }
+            Kind::Variable => {
+                if rest.len() < 2 {
+                    return refused(9, position);
+                }
+                let length = usize::from(u16_at(rest, 0));
+                // A length of 0 holds no null and falls with the texts.
+                if length > width
+                    || rest.len() < 2 + length
+                    || text_end(&rest[2..2 + length]).is_none()
+                {
+                    return refused(9, position);
+                }
+                2 + length
+            }
+        };
+        if rest.len() < used {
+            return refused(9, position);
+        }
+        rest = &rest[used..];
+    }
+    if !rest.is_empty() {
+        return refused(10, rest.len());
+    }
+    Ok(())
+}
+
+#[inline]
+fn see(bytes: &[u8]) -> Result<Seen, Refusal> {
+    if bytes.len() < 3 {
+        if !bytes.is_empty() && bytes[0] != 2 {
+            return refused(2, 0);
+        }
+        return refused(1, 3);
+    }
+    if bytes[0] != 2 {
+        return refused(2, 0);
+    }
+    let length = usize::from(u16_at(bytes, 1));
+    if length.wrapping_sub(58) > 4096 - 58 {
+        return refused(3, 0);
+    }
+    if bytes.len() < length {
+        return refused(1, length);
+    }
+    let message = &bytes[..length];
+    if crc32c(&message[..length - 4]) != u32_at(message, length - 4) {
+        return refused(4, length);
+    }
+    let head = Head {
+        kind: message[3],
+        number: u32_at(message, 4),
+        poss_dup: message[8],
+        poss_resend: message[9],
+        length,
+    };
+    let layout = match LAYOUTS.get(usize::from(head.kind)) {
+        Some(layout) => layout,
+        None => return refused(5, 0),
+    };
+    let comp_id_end = text_end(&message[10..22]).unwrap_or(0);
+    if head.number == 0 || head.poss_dup | head.poss_resend > 1 || comp_id_end == 0 {
+        return refused(6, 0);
+    }
+    let map = map_at(message, 22);
+    let unknown = map & !layout.known;
+    if unknown != 0 {
+        return refused(7, unknown.leading_zeros() as usize);
+    }
+    for word in 1..4 {
+        let map = map_at(message, 22 + 8 * word);
+        if map != 0 {
+            return refused(7, 64 * word + map.leading_zeros() as usize);
+        }
+    }
+    let missing = layout.required & !map;
+    if missing != 0 {
+        return refused(8, missing.leading_zeros() as usize);
+    }
+    walk(layout, map, &message[54..length - 4])?;
+    Ok(Seen {
+        head,
+        comp_id_end,
+        map,
+    })
+}
+
+/// Reads the message at the front: the answers of `reader::read`.
+pub fn read(bytes: &[u8]) -> Result<Head, Refusal> {
+    see(bytes).map(|seen| seen.head)
+}
+
+// ---- Session ----
+
+/// The session's state without a heap.
+#[derive(Clone, Copy, Debug)]
+pub struct Session {
+    pub phase: Phase,
+    comp_id: [u8; 12],
+    comp_id_end: usize,
+    pub e: u32,
+    pub o: u32,
+    pub m: u32,
+}
+
+const LAST: u32 = u32::MAX;
+
+impl Session {
+    pub fn saved(comp_id: &[u8], e: u32, o: u32) -> Result<Session, Refusal> {
+        if e == 0 || o == 0 {
+            return refused(23, 0);
+        }
+        let mut padded = [0; 12];
+        if comp_id.is_empty() || comp_id.len() > 11 {
+            return refused(6, 0);
+        }
+        padded[..comp_id.len()].copy_from_slice(comp_id);
+        if text_end(&padded) != Some(comp_id.len()) {
+            return refused(6, 0);
+        }
+        Ok(Session {
+            phase: Phase::Down,
+            comp_id: padded,
+            comp_id_end: comp_id.len(),
+            e,
+            o,
+            m: 0,
+        })
+    }
+
+    pub fn fresh(comp_id: &[u8]) -> Result<Session, Refusal> {
+        Session::saved(comp_id, 1, 1)
+    }
+
+    pub fn connect(&mut self, password: &[u8]) -> Result<Logon, Refusal> {
+        if self.phase != Phase::Down {
+            return refused(21, 0);
+        }
+        if self.o == LAST {
+            return refused(22, 0);
+        }
+        if password.len() > 449 || password.iter().any(|b| b.wrapping_sub(32) > 94) {
+            return refused(9, 0);
+        }
+        self.phase = Phase::Waiting;
+        self.o += 1;
+        Ok(Logon {
+            number: self.o - 1,
+            password: password.to_vec(),
+            next_expected: self.e,
+        })
+    }
+
+    #[allow(clippy::should_implement_trait)] // the paper's word
+    pub fn drop(&mut self) {
+        self.phase = Phase::Down;
+        self.m = 0;
+    }
+
+    /// One step: the answers of `session::Session::step`.
+    pub fn step(&mut self, bytes: &[u8]) -> Answer {
+        if self.phase == Phase::Down {
+            return answer(20, 0, NO_ROW);
+        }
+        let seen = match see(bytes) {
+            Ok(seen) => seen,
+            Err(r) if r.number == 1 || r.number == 4 => return answer(r.number, r.besides, NO_ROW),
+            Err(r) => return self.stop(r.number, r.besides),
+        };
+        let body = &bytes[54..];
+        if bytes[10..10 + seen.comp_id_end] != self.comp_id[..self.comp_id_end] {
+            return self.stop(31, 0);
+        }
+        let Head {
+            kind,
+            number: n,
+            poss_dup,
+            ..
+        } = seen.head;
+        if self.phase == Phase::Waiting {
+            return self.waiting(kind, n, seen.map, body);
+        }
+        // The common case first: business in its turn.
+        if kind >= 9 && n == self.e && n != LAST {
+            return answer(0, 0, self.take(RowSort::Business));
+        }
+        match kind {
+            5 | 7 | 8 => return self.stop(32, 0),
+            6 => {
+                let row = if n == self.e && n != LAST {
+                    self.take(RowSort::Session)
+                } else {
+                    NO_ROW
+                };
+                let mut answer = self.stop(0, 0);
+                answer.row = row;
+                return answer;
+            }
+            _ => {}
+        }
+        let mut fill = None;
+        if kind == 4 {
+            let marked = seen.map & TOP != 0;
+            let new = u32_at(body, usize::from(marked));
+            if !(marked && body[0] == b'Y') {
+                if new < self.e {
+                    return self.stop(33, 0);
+                }
+                let row = if new > self.e {
+                    self.jump(RowSort::Reset, new)
+                } else {
+                    NO_ROW
+                };
+                return answer(0, 0, row);
+            }
+            fill = Some(new);
+        }
+        if n < self.e {
+            return if poss_dup == 1 {
+                NOTHING
+            } else {
+                self.stop(30, 0)
+            };
+        }
+        let mut resend = Send::None;
+        // 36 comes before what a Resend Request asks.
+        if kind == 2 && !(n == self.e && n == LAST) {
+            let (start, end) = (u32_at(body, 0), u32_at(body, 4));
+            if start == 0 || start >= self.o || (end != 0 && end < start) {
+                return self.stop(34, 0);
+            }
+            // end 0 wraps to the greatest value: all.
+            let new = end.wrapping_sub(1).saturating_add(2).min(self.o);
+            resend = Send::GapFill { first: start, new };
+        }
+        if n > self.e {
+            let mut sends = [resend, Send::None];
+            if self.m == 0 {
+                if self.o == LAST {
+                    self.drop();
+                    return answer(22, 0, NO_ROW);
+                }
+                sends[usize::from(kind == 2)] = Send::ResendRequest {
+                    number: self.o,
+                    start: self.e,
+                    end: 0,
+                };
+                self.o += 1;
+                self.m = n;
+            }
+            return Answer { sends, ..NOTHING };
+        }
+        if n == LAST {
+            return self.stop(36, 0);
+        }
+        if let Some(new) = fill {
+            if new <= n {
+                return self.stop(33, 0);
+            }
+            return answer(0, 0, self.jump(RowSort::Filled, new));
+        }
+        if kind == 1 {
+            if self.o == LAST {
+                self.drop();
+                return answer(22, 0, NO_ROW);
+            }
+            resend = Send::Heartbeat {
+                number: self.o,
+                id: u16_at(body, 0),
+            };
+            self.o += 1;
+        }
+        let sends = [resend, Send::None];
+        let row = self.take(RowSort::Session);
+        Answer {
+            sends,
+            row,
+            ..NOTHING
+        }
+    }
+
+    fn waiting(&mut self, kind: u8, n: u32, map: u64, body: &[u8]) -> Answer {
+        if kind == 3 || kind == 6 {
+            let row = if n == self.e && n != LAST {
+                self.take(RowSort::Session)
+            } else {
+                NO_ROW
+            };
+            self.drop();
+            return answer(0, 0, row);
+        }
+        if kind != 5 {
+            return self.stop(32, 0);
+        }
+        if n < self.e {
+            return self.stop(30, 0);
+        }
+        // Two passwords of 450 may stand before Next Expected.
+        let next_expected = u32_at(body, 450 * (map >> 62).count_ones() as usize);
+        if next_expected == 0 || next_expected > self.o {
+            return self.stop(35, 0);
+        }
+        if n == self.e && n == LAST {
+            return self.stop(36, 0);
+        }
+        self.phase = Phase::Live;
+        let mut answer = NOTHING;
+        if next_expected < self.o {
+            answer.sends[0] = Send::GapFill {
+                first: next_expected,
+                new: self.o,
+            };
+        }
+        if n == self.e {
+            answer.row = self.take(RowSort::Session);
+        }
+        answer
+    }
+
+    #[inline]
+    fn take(&mut self, sort: RowSort) -> Row {
+        self.jump(sort, self.e + 1)
+    }
+
+    #[inline]
+    fn jump(&mut self, sort: RowSort, new: u32) -> Row {
+        let first = self.e;
+        self.e = new;
+        if new > self.m {
+            self.m = 0;
+        }
+        Row {
+            sort,
+            first,
+            last: new - 1,
+        }
+    }
+
+    #[cold]
+    fn stop(&mut self, code: u32, besides: u32) -> Answer {
+        let mut answer = answer(code, besides, NO_ROW);
+        if self.o < LAST {
+            answer.sends[0] = Send::Logout { number: self.o };
+            self.o += 1;
+        }
+        self.drop();
+        answer
+    }
+}
+
+#[inline]
+fn answer(code: u32, besides: u32, row: Row) -> Answer {
+    Answer {
+        code,
+        besides,
+        row,
+        ..NOTHING
+    }
+}

@@ -1,0 +1,299 @@
+//! The proved library's C interface (include/featherloom.h) as Rust sees it:
+//! the header's structs, and a wrapper over slices for each call. All of the
+//! package's unsafe code stands here.
+
+use std::mem::size_of;
+use std::ptr;
+
+#[repr(C)]
+#[derive(Clone, Copy, Debug, Default, PartialEq, Eq)]
+pub struct Reading {
+    pub refusal: u32,
+    pub number: u32,
+    pub besides: usize,
+    pub length: usize,
+    pub kind: u8,
+    pub possdup: u8,
+    pub possresend: u8,
+}
+
+#[repr(C)]
+#[derive(Clone, Copy, Debug, Default, PartialEq, Eq)]
+pub struct Part {
+    pub refusal: u32,
+    pub besides: usize,
+    pub offset: usize,
+    pub length: usize,
+}
+
+pub const NUMBER: u32 = 1;
+pub const DECIMAL: u32 = 2;
+
+#[repr(C)]
+#[derive(Clone, Copy, Debug, Default, PartialEq, Eq)]
+pub struct Value {
+    pub refusal: u32,
+    pub sort: u32,
+    pub besides: usize,
+    pub number: u64,
+    pub decimal: i64,
+}
+
+#[repr(C)]
+#[derive(Clone, Copy, Debug, Default, PartialEq, Eq)]
+pub struct Header {
+    pub kind: u8,
+    pub possdup: u8,
+    pub possresend: u8,
+    pub number: u32,
+}
+
+#[repr(C)]
+#[derive(Clone, Copy, Debug, Default, PartialEq, Eq)]
+pub struct Written {
+    pub refusal: u32,
+    pub besides: usize,
+    pub length: usize,
+}
+
+pub const DOWN: u32 = 0;
+pub const WAITING: u32 = 1;
+pub const LIVE: u32 = 2;
+
+#[repr(C)]
+#[derive(Clone, Copy, Debug, Default, PartialEq, Eq)]
+pub struct Session {
+    pub state: u32,
+    pub comp_id: [u8; 12],
+    pub expected: u32,
+    pub own: u32,
+    pub ahead: u32,
+}
+
+#[repr(C)]
+#[derive(Clone, Copy, Debug, Default, PartialEq, Eq)]
+pub struct Made {
+    pub refusal: u32,
+    pub session: Session,
+}
+
+#[repr(C)]
+#[derive(Clone, Copy, Debug, Default, PartialEq, Eq)]
+pub struct Connected {
+    pub refusal: u32,
+    pub session: Session,
+    pub number: u32,
+    pub next: u32,
+}
+
+#[repr(C)]
+#[derive(Clone, Copy, Debug, Default, PartialEq, Eq)]
+pub struct Send {
+    pub kind: u32,
+    pub number: u32,
+    pub first: u32,
+    pub second: u32,
+}
+
+#[repr(C)]
+#[derive(Clone, Copy, Debug, Default, PartialEq, Eq)]
+pub struct Row {
+    pub kind: u32,
+    pub first: u32,
+    pub last: u32,
+}
+
+#[repr(C)]
+#[derive(Clone, Copy, Debug, Default, PartialEq, Eq)]
+pub struct Stepped {
+    pub refusal: u32,
+    pub session: Session,
+    pub first: Send,
+    pub second: Send,
+    pub row: Row,
+    pub used: usize,
+}
+
+#[repr(C)]
+#[derive(Clone, Copy, Debug, Default, PartialEq, Eq)]
+pub struct Planned {
+    pub refusal: u32,
+    pub pairs: usize,
+}
+
+// The sizes that the header asserts.
+const _: () = assert!(
+    size_of::<Reading>() == 32
+        && size_of::<Part>() == 32
+        && size_of::<Value>() == 32
+        && size_of::<Header>() == 8
+        && size_of::<Written>() == 24
+        && size_of::<Session>() == 28
+        && size_of::<Made>() == 32
+        && size_of::<Connected>() == 40
+        && size_of::<Send>() == 16
+        && size_of::<Row>() == 12
+        && size_of::<Stepped>() == 88
+        && size_of::<Planned>() == 16
+);
+
+extern "C" {
+    fn featherloom_read(bytes: *const u8, count: usize) -> Reading;
+    fn featherloom_comp_id(bytes: *const u8, count: usize) -> Part;
+    fn featherloom_map(bytes: *const u8, count: usize) -> Part;
+    fn featherloom_body(bytes: *const u8, count: usize) -> Part;
+    fn featherloom_ask(bytes: *const u8, count: usize, position: usize) -> Value;
+    fn featherloom_text(bytes: *const u8, count: usize, position: usize) -> Part;
+    fn featherloom_crc32c(bytes: *const u8, count: usize) -> u32;
+    fn featherloom_write(
+        buffer: *mut u8,
+        room: usize,
+        header: Header,
+        comp_id: *const u8,
+        comp_id_count: usize,
+        map: *const u8,
+        body: *const u8,
+        body_count: usize,
+    ) -> Written;
+    fn featherloom_fresh(comp_id: *const u8, count: usize) -> Made;
+    fn featherloom_saved(comp_id: *const u8, count: usize, expected: u32, own: u32) -> Made;
+    fn featherloom_connect(session: Session, password: *const u8, count: usize) -> Connected;
+    fn featherloom_drop(session: Session) -> Made;
+    fn featherloom_step(session: Session, bytes: *const u8, count: usize) -> Stepped;
+    fn featherloom_put(buffer: *mut u8, room: usize, session: Session, send: Send) -> Written;
+    fn featherloom_put_logon(
+        buffer: *mut u8,
+        room: usize,
+        session: Session,
+        number: u32,
+        password: *const u8,
+        count: usize,
+        next: u32,
+    ) -> Written;
+    fn featherloom_plan(
+        list: *const u8,
+        count: usize,
+        start: u32,
+        end: u32,
+        numbers: *mut u32,
+        room: usize,
+    ) -> Planned;
+}
+
+/// Where lent bytes begin. No bytes may come with NULL, and here they do.
+fn at(bytes: &[u8]) -> *const u8 {
+    if bytes.is_empty() {
+        ptr::null()
+    } else {
+        bytes.as_ptr()
+    }
+}
+
+// Safe, each of them: the pointer and the length are those of one slice, the
+// structs are values, and the library keeps no pointer.
+
+pub fn read(bytes: &[u8]) -> Reading {
+    unsafe { featherloom_read(at(bytes), bytes.len()) }
+}
+
+pub fn comp_id(bytes: &[u8]) -> Part {
+    unsafe { featherloom_comp_id(at(bytes), bytes.len()) }
+}
+
+pub fn map(bytes: &[u8]) -> Part {
+    unsafe { featherloom_map(at(bytes), bytes.len()) }
+}
+
+pub fn body(bytes: &[u8]) -> Part {
+    unsafe { featherloom_body(at(bytes), bytes.len()) }
+}
+
+pub fn ask(bytes: &[u8], position: usize) -> Value {
+    unsafe { featherloom_ask(at(bytes), bytes.len(), position) }
+}
+
+pub fn text(bytes: &[u8], position: usize) -> Part {
+    unsafe { featherloom_text(at(bytes), bytes.len(), position) }
+}
+
+pub fn crc32c(bytes: &[u8]) -> u32 {
+    unsafe { featherloom_crc32c(at(bytes), bytes.len()) }
+}
+
+pub fn write(
+    buffer: &mut [u8],
+    header: Header,
+    comp_id: &[u8],
+    map: &[u8; 32],
+    body: &[u8],
+) -> Written {
+    unsafe {
+        featherloom_write(
+            buffer.as_mut_ptr(),
+            buffer.len(),
+            header,
+            at(comp_id),
+            comp_id.len(),
+            map.as_ptr(),
+            at(body),
+            body.len(),
+        )
+    }
+}
+
+pub fn fresh(comp_id: &[u8]) -> Made {
+    unsafe { featherloom_fresh(at(comp_id), comp_id.len()) }
+}
+
+pub fn saved(comp_id: &[u8], expected: u32, own: u32) -> Made {
+    unsafe { featherloom_saved(at(comp_id), comp_id.len(), expected, own) }
+}
+
+pub fn connect(session: Session, password: &[u8]) -> Connected {
+    unsafe { featherloom_connect(session, at(password), password.len()) }
+}
+
+pub fn drop(session: Session) -> Made {
+    unsafe { featherloom_drop(session) }
+}
+
+pub fn step(session: Session, bytes: &[u8]) -> Stepped {
+    unsafe { featherloom_step(session, at(bytes), bytes.len()) }
+}
+
+pub fn put(buffer: &mut [u8], session: Session, send: Send) -> Written {
+    unsafe { featherloom_put(buffer.as_mut_ptr(), buffer.len(), session, send) }
+}
+
+pub fn put_logon(
+    buffer: &mut [u8],
+    session: Session,
+    number: u32,
+    password: &[u8],
+    next: u32,
+) -> Written {
+    unsafe {
+        featherloom_put_logon(
+            buffer.as_mut_ptr(),
+            buffer.len(),
+            session,
+            number,
+            at(password),
+            password.len(),
+            next,
+        )
+    }
+}
+
+pub fn plan(list: &[u8], start: u32, end: u32, numbers: &mut [u32]) -> Planned {
+    unsafe {
+        featherloom_plan(
+            at(list),
+            list.len(),
+            start,
+            end,
+            numbers.as_mut_ptr(),
+            numbers.len(),
+        )
+    }
+}

@@ -1,0 +1,468 @@
+//! The client session (document 01, "The session"). The numbers in the
+//! comments are the rules' numbers there.
+
+use crate::reader::{self, Head, Value};
+use crate::tables;
+use crate::wire::{is_comp_id, refuse, Refusal, BAD_HEADER};
+use crate::writer;
+
+/// The last number there is; nothing is sent or taken under it.
+pub const LAST: u32 = 4_294_967_295;
+
+pub const DOWN: u32 = 20;
+pub const NOT_DOWN: u32 = 21;
+pub const EXHAUSTED: u32 = 22;
+pub const SAVED_ZERO: u32 = 23;
+pub const LOWER_NUMBER: u32 = 30;
+pub const OTHER_COMP_ID: u32 = 31;
+pub const WRONG_TYPE: u32 = 32;
+pub const BAD_NEW: u32 = 33;
+pub const BAD_RESEND: u32 = 34;
+pub const BAD_NEXT_EXPECTED: u32 = 35;
+pub const LAST_TAKEN: u32 = 36;
+
+#[derive(Clone, Copy, Debug, PartialEq, Eq)]
+pub enum Phase {
+    Down,
+    Waiting,
+    Live,
+}
+
+/// A message to send, as a value.
+#[derive(Clone, Copy, Debug, PartialEq, Eq)]
+pub enum Send {
+    None,
+    Heartbeat { number: u32, id: u16 },
+    Logout { number: u32 },
+    GapFill { first: u32, new: u32 },
+    ResendRequest { number: u32, start: u32, end: u32 },
+}
+
+impl Send {
+    /// The message as bytes; none for no message.
+    pub fn bytes(&self, comp_id: &[u8]) -> Result<Vec<u8>, Refusal> {
+        match *self {
+            Send::None => Ok(Vec::new()),
+            Send::Heartbeat { number, id } => writer::heartbeat_for(number, comp_id, id),
+            Send::Logout { number } => writer::logout(number, comp_id),
+            Send::GapFill { first, new } => writer::gap_fill(first, comp_id, new),
+            Send::ResendRequest { number, start, end } => {
+                writer::resend_request(number, comp_id, start, end)
+            }
+        }
+    }
+}
+
+/// Connect's Logon, as a value.
+#[derive(Clone, Debug, PartialEq, Eq)]
+pub struct Logon {
+    pub number: u32,
+    pub password: Vec<u8>,
+    pub next_expected: u32,
+}
+
+impl Logon {
+    pub fn bytes(&self, comp_id: &[u8]) -> Result<Vec<u8>, Refusal> {
+        writer::logon(self.number, comp_id, &self.password, self.next_expected)
+    }
+}
+
+#[derive(Clone, Copy, Debug, PartialEq, Eq)]
+pub enum RowSort {
+    None,
+    Business,
+    Session,
+    Filled,
+    Reset,
+}
+
+/// An account row; the numbers are 0 where there is none.
+#[derive(Clone, Copy, Debug, PartialEq, Eq)]
+pub struct Row {
+    pub sort: RowSort,
+    pub first: u32,
+    pub last: u32,
+}
+
+pub const NO_ROW: Row = Row {
+    sort: RowSort::None,
+    first: 0,
+    last: 0,
+};
+
+/// What one step answers.
+#[derive(Clone, Copy, Debug, PartialEq, Eq)]
+pub struct Answer {
+    /// 0, or the number of the refusal or of the Stop.
+    pub code: u32,
+    /// What the reader returned besides, where the code is the reader's.
+    pub besides: u32,
+    /// The messages to send, in order; a single one stands in the first slot.
+    pub sends: [Send; 2],
+    pub row: Row,
+}
+
+/// Nothing happened that anyone must hear of.
+pub const NOTHING: Answer = Answer {
+    code: 0,
+    besides: 0,
+    sends: [Send::None; 2],
+    row: NO_ROW,
+};
+
+#[derive(Clone, Debug, PartialEq, Eq)]
+pub struct Session {
+    pub phase: Phase,
+    /// Our Comp ID as its characters.
+    pub comp_id: Vec<u8>,
+    /// E, the number expected next.
+    pub e: u32,
+    /// O, our next number.
+    pub o: u32,
+    /// M, the number ahead that made us ask; 0 for none.
+    pub m: u32,
+}
+
+/// The number at a position of a message that the reader took; None where the
+/// position is clear.
+fn asked(bytes: &[u8], position: u32) -> Option<u32> {
+    match reader::ask_number(bytes, position) {
+        Ok(Value::Number(value)) => Some(value as u32),
+        _ => None,
+    }
+}
+
+/// The number at a required position.
+fn required(bytes: &[u8], position: u32) -> u32 {
+    asked(bytes, position).expect("the reader took a message with this field")
+}
+
+impl Session {
+    /// A fresh day: Down, E = O = 1, M = 0. A bad Comp ID is 6.
+    pub fn fresh(comp_id: &[u8]) -> Result<Session, Refusal> {
+        Session::saved(comp_id, 1, 1)
+    }
+
+    /// Down, from saved E and O: 0 in either is 23, then a bad Comp ID is 6.
+    pub fn saved(comp_id: &[u8], e: u32, o: u32) -> Result<Session, Refusal> {
+        if e == 0 || o == 0 {
+            return Err(refuse(SAVED_ZERO, 0));
+        }
+        if !is_comp_id(comp_id) {
+            return Err(refuse(BAD_HEADER, 0));
+        }
+        Ok(Session {
+            phase: Phase::Down,
+            comp_id: comp_id.to_vec(),
+            e,
+            o,
+            m: 0,
+        })
+    }
+
+    /// Connect: 21, 22, 9 (position 0) in this order, each changing nothing;
+    /// else the Logon to send, and Waiting.
+    pub fn connect(&mut self, password: &[u8]) -> Result<Logon, Refusal> {
+        if self.phase != Phase::Down {
+            return Err(refuse(NOT_DOWN, 0));
+        }
+        if self.o == LAST {
+            return Err(refuse(EXHAUSTED, 0));
+        }
+        writer::check_text(password, tables::PASSWORD.width)?;
+        let number = self.take_number();
+        self.phase = Phase::Waiting;
+        Ok(Logon {
+            number,
+            password: password.to_vec(),
+            next_expected: self.e,
+        })
+    }
+
+    /// Drop: Down, E and O kept. M is 0 whenever the state is Down.
+    #[allow(clippy::should_implement_trait)] // the paper's word
+    pub fn drop(&mut self) {
+        self.phase = Phase::Down;
+        self.m = 0;
+    }
+
+    /// One step over lent bytes.
+    pub fn step(&mut self, bytes: &[u8]) -> Answer {
+        // Down answers 20 before the bytes are looked at.
+        if self.phase == Phase::Down {
+            return Answer {
+                code: DOWN,
+                ..NOTHING
+            };
+        }
+        let head = match reader::read(bytes) {
+            Ok(head) => head,
+            // 1 changes nothing; 4 drops the message and changes nothing.
+            Err(refusal) if refusal.number == 1 || refusal.number == 4 => {
+                return Answer {
+                    code: refusal.number,
+                    besides: refusal.besides,
+                    ..NOTHING
+                };
+            }
+            Err(refusal) => {
+                return Answer {
+                    besides: refusal.besides,
+                    ..self.stop(refusal.number)
+                };
+            }
+        };
+        // 1.
+        if reader::comp_id(bytes) != self.comp_id {
+            return self.stop(OTHER_COMP_ID);
+        }
+        if self.phase == Phase::Waiting {
+            self.waiting(&head, bytes)
+        } else {
+            self.live(&head, bytes)
+        }
+    }
+
+    /// Rule 2, waiting for the gateway's Logon.
+    fn waiting(&mut self, head: &Head, bytes: &[u8]) -> Answer {
+        let n = head.number;
+        match head.kind {
+            // Logout or Reject: Down, nothing sent.
+            6 | 3 => {
+                let row = if n == self.e && n != LAST {
+                    self.take(RowSort::Session)
+                } else {
+                    NO_ROW
+                };
+                self.drop();
+                Answer { row, ..NOTHING }
+            }
+            5 => {
+                let next_expected = required(bytes, 2);
+                if n < self.e {
+                    return self.stop(LOWER_NUMBER);
+                }
+                if next_expected == 0 || next_expected > self.o {
+                    return self.stop(BAD_NEXT_EXPECTED);
+                }
+                if n == self.e && n == LAST {
+                    return self.stop(LAST_TAKEN);
+                }
+                self.phase = Phase::Live;
+                let first_send = if next_expected < self.o {
+                    Send::GapFill {
+                        first: next_expected,
+                        new: self.o,
+                    }
+                } else {
+                    Send::None
+                };
+                // n > E takes nothing and asks nothing: the gateway fills the
+                // gap by itself (004 section 5.3).
+                let row = if n == self.e {
+                    self.take(RowSort::Session)
+                } else {
+                    NO_ROW
+                };
+                Answer {
+                    sends: [first_send, Send::None],
+                    row,
+                    ..NOTHING
+                }
+            }
+            _ => self.stop(WRONG_TYPE),
+        }
+    }
+
+    fn live(&mut self, head: &Head, bytes: &[u8]) -> Answer {
+        let n = head.number;
+        // 3.
+        if head.kind == 5 || head.kind == 7 || head.kind == 8 {
+            return self.stop(WRONG_TYPE);
+        }
+        let is_reset = head.kind == 4;
+        let is_gap_fill = is_reset && asked(bytes, 0) == Some(u32::from(b'Y'));
+        // 4. n is ignored.
+        if is_reset && !is_gap_fill {
+            let new = required(bytes, 1);
+            if new < self.e {
+                return self.stop(BAD_NEW);
+            }
+            if new == self.e {
+                return NOTHING;
+            }
+            let row = self.skip_to(RowSort::Reset, new);
+            return Answer { row, ..NOTHING };
+        }
+        // 5.
+        if head.kind == 6 {
+            let row = if n == self.e && n != LAST {
+                self.take(RowSort::Session)
+            } else {
+                NO_ROW
+            };
+            return Answer {
+                row,
+                ..self.stop(0)
+            };
+        }
+        // 6.
+        if n < self.e {
+            if head.poss_dup == 1 {
+                return NOTHING;
+            }
+            return self.stop(LOWER_NUMBER);
+        }
+        // 7.
+        if n > self.e {
+            return self.ahead(head, bytes);
+        }
+        // 8.
+        if n == LAST {
+            return self.stop(LAST_TAKEN);
+        }
+        // 9.
+        if is_gap_fill {
+            let new = required(bytes, 1);
+            if new <= n {
+                return self.stop(BAD_NEW);
+            }
+            let row = self.skip_to(RowSort::Filled, new);
+            return Answer { row, ..NOTHING };
+        }
+        let mut first_send = Send::None;
+        if head.kind == 1 {
+            if self.o == LAST {
+                return self.exhausted();
+            }
+            first_send = Send::Heartbeat {
+                number: self.take_number(),
+                id: required(bytes, 0) as u16,
+            };
+        }
+        if head.kind == 2 {
+            first_send = match self.answer_resend(bytes) {
+                Some(gap_fill) => gap_fill,
+                None => return self.stop(BAD_RESEND),
+            };
+        }
+        let sort = if head.kind == 9 || head.kind == 10 {
+            RowSort::Business
+        } else {
+            RowSort::Session
+        };
+        let row = self.take(sort);
+        Answer {
+            sends: [first_send, Send::None],
+            row,
+            ..NOTHING
+        }
+    }
+
+    /// Rule 7, a number ahead: a Resend Request is answered all the same, then we
+    /// ask for what is missing, once.
+    fn ahead(&mut self, head: &Head, bytes: &[u8]) -> Answer {
+        let mut sends = [Send::None; 2];
+        let mut used = 0;
+        if head.kind == 2 {
+            match self.answer_resend(bytes) {
+                Some(gap_fill) => sends[used] = gap_fill,
+                None => return self.stop(BAD_RESEND),
+            }
+            used += 1;
+        }
+        if self.m == 0 {
+            if self.o == LAST {
+                return self.exhausted();
+            }
+            sends[used] = Send::ResendRequest {
+                number: self.take_number(),
+                start: self.e,
+                end: 0,
+            };
+            self.m = head.number;
+        }
+        Answer { sends, ..NOTHING }
+    }
+
+    /// The gap fill that answers a Resend Request, None for a bad one (9).
+    /// It leaves O.
+    fn answer_resend(&self, bytes: &[u8]) -> Option<Send> {
+        let start = required(bytes, 0);
+        let end = required(bytes, 1);
+        if start == 0 || start >= self.o || (end != 0 && end < start) {
+            return None;
+        }
+        // end < O first: there end + 1 cannot run over.
+        let new = if end != 0 && end < self.o && end + 1 < self.o {
+            end + 1
+        } else {
+            self.o
+        };
+        Some(Send::GapFill { first: start, new })
+    }
+
+    /// Our next number. The caller has seen that O is below the last one.
+    fn take_number(&mut self) -> u32 {
+        let number = self.o;
+        self.o += 1;
+        number
+    }
+
+    /// A business or session row for E, which makes E one more.
+    fn take(&mut self, sort: RowSort) -> Row {
+        let n = self.e;
+        self.move_to(n + 1);
+        Row {
+            sort,
+            first: n,
+            last: n,
+        }
+    }
+
+    /// A filled or reset row from E to New - 1, which makes E New.
+    fn skip_to(&mut self, sort: RowSort, new: u32) -> Row {
+        let first = self.e;
+        self.move_to(new);
+        Row {
+            sort,
+            first,
+            last: new - 1,
+        }
+    }
+
+    /// M becomes 0 whenever E exceeds it.
+    fn move_to(&mut self, e: u32) {
+        self.e = e;
+        if self.e > self.m {
+            self.m = 0;
+        }
+    }
+
+    /// Stop(k): a Logout if there is a number for it, Down, no row.
+    fn stop(&mut self, code: u32) -> Answer {
+        let logout = if self.o < LAST {
+            Send::Logout {
+                number: self.take_number(),
+            }
+        } else {
+            Send::None
+        };
+        self.drop();
+        Answer {
+            code,
+            sends: [logout, Send::None],
+            ..NOTHING
+        }
+    }
+
+    /// 22 in place of a step whose numbered message has no number left: Down,
+    /// nothing sent, no row.
+    fn exhausted(&mut self) -> Answer {
+        self.drop();
+        Answer {
+            code: EXHAUSTED,
+            ..NOTHING
+        }
+    }
+}

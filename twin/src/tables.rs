@@ -1,0 +1,589 @@
+//! The data dictionary (004 section 8.2) and the tables of the message types
+//! 0 to 10 (004 sections 7.6, 7.7, 7.8, 7.11), typed by hand.
+
+/// How a field lies in the body (004 section 6.1).
+#[derive(Clone, Copy, Debug, PartialEq, Eq)]
+pub enum Sort {
+    /// UInt8, UInt16 or UInt32, by its width.
+    Number,
+    /// One byte that holds a character.
+    Byte,
+    /// A signed 64-bit count of hundred-millionths.
+    Decimal,
+    /// Alphanumeric Fixed Length; the width counts the null.
+    Fixed,
+    /// Alphanumeric Variable Length; the width is the greatest length, null
+    /// counted and the two length bytes not.
+    Variable,
+}
+
+/// A line of the dictionary.
+#[derive(Clone, Copy, Debug, PartialEq, Eq)]
+pub struct Field {
+    pub name: &'static str,
+    pub sort: Sort,
+    pub width: usize,
+}
+
+const fn field(name: &'static str, sort: Sort, width: usize) -> Field {
+    Field { name, sort, width }
+}
+const fn uint8(name: &'static str) -> Field {
+    field(name, Sort::Number, 1)
+}
+const fn uint16(name: &'static str) -> Field {
+    field(name, Sort::Number, 2)
+}
+const fn uint32(name: &'static str) -> Field {
+    field(name, Sort::Number, 4)
+}
+const fn byte(name: &'static str) -> Field {
+    field(name, Sort::Byte, 1)
+}
+const fn decimal(name: &'static str) -> Field {
+    field(name, Sort::Decimal, 8)
+}
+const fn fixed(name: &'static str, width: usize) -> Field {
+    field(name, Sort::Fixed, width)
+}
+const fn variable(name: &'static str, width: usize) -> Field {
+    field(name, Sort::Variable, width)
+}
+
+// 004 section 8.2, in its order. The fields that only type 21 uses are left
+// out, since type 21 is not held: Clearing Instruction, Owning Broker ID, Trade
+// Type, Trade Report ID, Trade Report Trans Type, Trade Report Type, Trade
+// Report Status, Trade ID, Trade Handling Instructions.
+pub const AGGRESSOR_INDICATOR: Field = uint8("Aggressor Indicator");
+pub const BROKER_LOCATION_ID: Field = fixed("Broker Location ID", 11);
+pub const BUSINESS_REJECT_CODE: Field = uint16("Business Reject Code");
+pub const BUSINESS_REJECT_REFERENCE_ID: Field = fixed("Business Reject Reference ID", 21);
+pub const CLIENT_ORDER_ID: Field = fixed("Client Order ID", 21);
+pub const COPY_MESSAGE_INDICATOR: Field = uint8("Copy Message Indicator");
+pub const COUNTERPARTY_BROKER_ID: Field = fixed("Counterparty Broker ID", 12);
+pub const CUMULATIVE_QUANTITY: Field = decimal("Cumulative Quantity");
+/// Section 7.7.5 calls it End Sequence Number.
+pub const END_SEQUENCE: Field = uint32("End Sequence");
+pub const EXEC_TYPE: Field = byte("Exec Type");
+pub const EXECUTION_ID: Field = fixed("Execution ID", 21);
+pub const EXECUTION_PRICE: Field = decimal("Execution Price");
+pub const EXECUTION_QUANTITY: Field = decimal("Execution Quantity");
+pub const EXEC_RESTATEMENT_REASON: Field = uint16("Exec Restatement Reason");
+pub const EXCHANGE_TRADE_TYPE: Field = byte("Exchange Trade Type");
+/// The only Byte that does not take every value: 'Y' or 'N'.
+pub const GAP_FILL: Field = byte("Gap Fill");
+pub const LEAVES_QUANTITY: Field = decimal("Leaves Quantity");
+pub const LOGOUT_TEXT: Field = variable("Logout Text", 75);
+pub const LOOKUP_REJECT_CODE: Field = uint8("Lookup Reject Code");
+pub const LOT_TYPE: Field = uint8("Lot Type");
+pub const MATCH_TYPE: Field = uint8("Match Type");
+pub const MAX_PRICE_LEVELS: Field = uint8("Max Price Levels");
+pub const MESSAGE_REJECT_CODE: Field = uint16("Message Reject Code");
+pub const NEW_PASSWORD: Field = fixed("New Password", 450);
+pub const NEW_SEQUENCE_NUMBER: Field = uint32("New Sequence Number");
+pub const NEXT_EXPECTED: Field = uint32("Next Expected Message Sequence");
+pub const ORDER_ID: Field = fixed("Order ID", 21);
+pub const ORDER_QUANTITY: Field = decimal("Order Quantity");
+pub const ORDER_STATUS: Field = uint8("Order Status");
+pub const ORDER_TYPE: Field = uint8("Order Type");
+pub const ORDER_RESTRICTIONS: Field = fixed("Order Restrictions", 21);
+pub const ORDER_CAPACITY: Field = uint8("Order Capacity");
+pub const ORDER_CATEGORY: Field = uint8("Order Category");
+pub const ORIGINAL_CLIENT_ORDER_ID: Field = fixed("Original Client Order ID", 21);
+pub const PASSWORD: Field = fixed("Password", 450);
+pub const POSITION_EFFECT: Field = uint8("Position Effect");
+pub const PRICE: Field = decimal("Price");
+pub const PROTOCOL_TYPE: Field = uint8("Protocol Type");
+pub const PRIMARY_IP: Field = fixed("Primary IP", 16);
+pub const PRIMARY_PORT: Field = uint16("Primary Port");
+pub const REFERENCE_EXECUTION_ID: Field = fixed("Reference Execution ID", 21);
+pub const REFERENCE_FIELD_NAME: Field = fixed("Reference Field Name", 50);
+pub const REFERENCE_MESSAGE_TYPE: Field = uint8("Reference Message Type");
+pub const REFERENCE_SEQUENCE_NUMBER: Field = uint32("Reference Sequence Number");
+pub const REFERENCE_TEST_REQUEST_ID: Field = uint16("Reference Test Request ID");
+pub const REASON: Field = variable("Reason", 75);
+pub const SECURITY_EXCHANGE: Field = fixed("Security Exchange", 5);
+pub const SECURITY_ID: Field = fixed("Security ID", 21);
+pub const SECURITY_ID_SOURCE: Field = uint8("Security ID Source");
+pub const SECONDARY_IP: Field = fixed("Secondary IP", 16);
+pub const SECONDARY_PORT: Field = uint16("Secondary Port");
+pub const SESSION_STATUS: Field = uint8("Session Status");
+pub const SIDE: Field = uint8("Side");
+pub const SMP_ID: Field = fixed("SMP ID", 10);
+/// Section 7.7.5 calls it Start Sequence Number.
+pub const START_SEQUENCE: Field = uint32("Start Sequence");
+pub const STATUS: Field = uint8("Status");
+pub const SUBMITTING_BROKER_ID: Field = fixed("Submitting Broker ID", 12);
+pub const TEXT: Field = variable("Text", 50);
+/// The tables call it Time In Force (TIF), Time In Force, or TIF.
+pub const TIME_IN_FORCE: Field = uint8("Time In Force - TIF");
+pub const TEST_MESSAGE_INDICATOR: Field = uint8("Test Message Indicator");
+pub const TEST_REQUEST_ID: Field = uint16("Test Request ID");
+pub const TRANSACTION_TIME: Field = fixed("Transaction Time", 25);
+pub const TRADE_MATCH_ID: Field = fixed("Trade Match ID", 25);
+pub const TYPE_OF_SERVICE: Field = uint8("Type of Service");
+
+/// A line of a type's table.
+pub type Line = (usize, Field, bool);
+
+const Y: bool = true;
+const N: bool = false;
+
+/// 7.7.3 Heartbeat (0).
+pub const HEARTBEAT: &[Line] = &[(0, REFERENCE_TEST_REQUEST_ID, N)];
+
+/// 7.7.4 Test Request (1).
+pub const TEST_REQUEST: &[Line] = &[(0, TEST_REQUEST_ID, Y)];
+
+/// 7.7.5 Resend Request (2).
+pub const RESEND_REQUEST: &[Line] = &[(0, START_SEQUENCE, Y), (1, END_SEQUENCE, Y)];
+
+/// 7.7.6 Reject (3).
+pub const REJECT: &[Line] = &[
+    (0, MESSAGE_REJECT_CODE, Y),
+    (1, REASON, N),
+    (2, REFERENCE_MESSAGE_TYPE, N),
+    (3, REFERENCE_FIELD_NAME, N),
+    (4, REFERENCE_SEQUENCE_NUMBER, Y),
+    (5, CLIENT_ORDER_ID, N),
+];
+
+/// 7.7.7 Sequence Reset (4).
+pub const SEQUENCE_RESET: &[Line] = &[(0, GAP_FILL, N), (1, NEW_SEQUENCE_NUMBER, Y)];
+
+/// 7.7.1 Logon (5). The Password is required of a client only, so the table
+/// says N and the reader asks nothing more.
+pub const LOGON: &[Line] = &[
+    (0, PASSWORD, N),
+    (1, NEW_PASSWORD, N),
+    (2, NEXT_EXPECTED, Y),
+    (3, SESSION_STATUS, N),
+    (4, TEXT, N),
+    (5, TEST_MESSAGE_INDICATOR, N),
+];
+
+/// 7.7.2 Logout (6).
+pub const LOGOUT: &[Line] = &[(0, LOGOUT_TEXT, N), (1, SESSION_STATUS, N)];
+
+/// 7.6.1 Lookup Request (7).
+pub const LOOKUP_REQUEST: &[Line] = &[(0, TYPE_OF_SERVICE, Y), (1, PROTOCOL_TYPE, Y)];
+
+/// 7.6.2 Lookup Response (8).
+pub const LOOKUP_RESPONSE: &[Line] = &[
+    (0, STATUS, Y),
+    (1, LOOKUP_REJECT_CODE, N),
+    (2, REASON, N),
+    (3, PRIMARY_IP, N),
+    (4, PRIMARY_PORT, N),
+    (5, SECONDARY_IP, N),
+    (6, SECONDARY_PORT, N),
+];
+
+/// 7.11.1 Business Message Reject (9).
+pub const BUSINESS_MESSAGE_REJECT: &[Line] = &[
+    (0, BUSINESS_REJECT_CODE, Y),
+    (1, REASON, N),
+    (2, REFERENCE_MESSAGE_TYPE, Y),
+    (3, REFERENCE_FIELD_NAME, N),
+    (4, REFERENCE_SEQUENCE_NUMBER, N),
+    (5, BUSINESS_REJECT_REFERENCE_ID, N),
+];
+
+/// 7.8.1 Order Accepted.
+pub const ORDER_ACCEPTED: &[Line] = &[
+    (0, CLIENT_ORDER_ID, N),
+    (1, SUBMITTING_BROKER_ID, Y),
+    (2, SECURITY_ID, Y),
+    (3, SECURITY_ID_SOURCE, Y),
+    (4, SECURITY_EXCHANGE, N),
+    (5, BROKER_LOCATION_ID, N),
+    (6, TRANSACTION_TIME, Y),
+    (7, SIDE, Y),
+    (9, ORDER_ID, Y),
+    (11, ORDER_TYPE, N),
+    (12, PRICE, N),
+    (13, ORDER_QUANTITY, N),
+    (14, TIME_IN_FORCE, N),
+    (15, POSITION_EFFECT, N),
+    (16, ORDER_RESTRICTIONS, N),
+    (17, MAX_PRICE_LEVELS, N),
+    (18, ORDER_CAPACITY, N),
+    (19, TEXT, N),
+    (21, EXECUTION_ID, Y),
+    (22, ORDER_STATUS, Y),
+    (23, EXEC_TYPE, Y),
+    (24, CUMULATIVE_QUANTITY, Y),
+    (25, LEAVES_QUANTITY, Y),
+    (27, LOT_TYPE, N),
+    (37, COPY_MESSAGE_INDICATOR, Y),
+    (43, SMP_ID, N),
+];
+
+/// 7.8.2 Order Cancelled.
+pub const ORDER_CANCELLED: &[Line] = &[
+    (0, CLIENT_ORDER_ID, N),
+    (1, SUBMITTING_BROKER_ID, Y),
+    (2, SECURITY_ID, Y),
+    (3, SECURITY_ID_SOURCE, Y),
+    (4, SECURITY_EXCHANGE, N),
+    (5, BROKER_LOCATION_ID, N),
+    (6, TRANSACTION_TIME, Y),
+    (7, SIDE, Y),
+    (8, ORIGINAL_CLIENT_ORDER_ID, N),
+    (9, ORDER_ID, Y),
+    (11, ORDER_TYPE, N),
+    (12, PRICE, N),
+    (13, ORDER_QUANTITY, N),
+    (14, TIME_IN_FORCE, N),
+    (15, POSITION_EFFECT, N),
+    (16, ORDER_RESTRICTIONS, N),
+    (17, MAX_PRICE_LEVELS, N),
+    (18, ORDER_CAPACITY, N),
+    (19, TEXT, N),
+    (21, EXECUTION_ID, Y),
+    (22, ORDER_STATUS, Y),
+    (23, EXEC_TYPE, Y),
+    (24, CUMULATIVE_QUANTITY, Y),
+    (25, LEAVES_QUANTITY, Y),
+    (27, LOT_TYPE, N),
+    (37, COPY_MESSAGE_INDICATOR, Y),
+];
+
+/// 7.8.3 Order Cancelled, unsolicited.
+pub const ORDER_CANCELLED_UNSOLICITED: &[Line] = &[
+    (0, CLIENT_ORDER_ID, N),
+    (1, SUBMITTING_BROKER_ID, Y),
+    (2, SECURITY_ID, Y),
+    (3, SECURITY_ID_SOURCE, Y),
+    (4, SECURITY_EXCHANGE, N),
+    (5, BROKER_LOCATION_ID, N),
+    (6, TRANSACTION_TIME, Y),
+    (7, SIDE, Y),
+    (9, ORDER_ID, Y),
+    (11, ORDER_TYPE, N),
+    (12, PRICE, N),
+    (13, ORDER_QUANTITY, N),
+    (14, TIME_IN_FORCE, N),
+    (15, POSITION_EFFECT, N),
+    (16, ORDER_RESTRICTIONS, N),
+    (17, MAX_PRICE_LEVELS, N),
+    (18, ORDER_CAPACITY, N),
+    (19, TEXT, N),
+    (21, EXECUTION_ID, Y),
+    (22, ORDER_STATUS, Y),
+    (23, EXEC_TYPE, Y),
+    (24, CUMULATIVE_QUANTITY, Y),
+    (25, LEAVES_QUANTITY, Y),
+    (27, LOT_TYPE, N),
+    (28, EXEC_RESTATEMENT_REASON, N),
+    (37, COPY_MESSAGE_INDICATOR, Y),
+    (43, SMP_ID, N),
+];
+
+/// 7.8.4 Order Expired.
+pub const ORDER_EXPIRED: &[Line] = &[
+    (0, CLIENT_ORDER_ID, N),
+    (1, SUBMITTING_BROKER_ID, Y),
+    (2, SECURITY_ID, Y),
+    (3, SECURITY_ID_SOURCE, Y),
+    (4, SECURITY_EXCHANGE, N),
+    (5, BROKER_LOCATION_ID, N),
+    (6, TRANSACTION_TIME, Y),
+    (7, SIDE, Y),
+    (9, ORDER_ID, Y),
+    (11, ORDER_TYPE, N),
+    (12, PRICE, N),
+    (13, ORDER_QUANTITY, N),
+    (14, TIME_IN_FORCE, N),
+    (15, POSITION_EFFECT, N),
+    (16, ORDER_RESTRICTIONS, N),
+    (17, MAX_PRICE_LEVELS, N),
+    (18, ORDER_CAPACITY, N),
+    (19, TEXT, N),
+    (20, REASON, N),
+    (21, EXECUTION_ID, Y),
+    (22, ORDER_STATUS, Y),
+    (23, EXEC_TYPE, Y),
+    (24, CUMULATIVE_QUANTITY, Y),
+    (25, LEAVES_QUANTITY, Y),
+    (27, LOT_TYPE, N),
+    (37, COPY_MESSAGE_INDICATOR, Y),
+];
+
+/// 7.8.5 Order Amended.
+pub const ORDER_AMENDED: &[Line] = &[
+    (0, CLIENT_ORDER_ID, N),
+    (1, SUBMITTING_BROKER_ID, Y),
+    (2, SECURITY_ID, Y),
+    (3, SECURITY_ID_SOURCE, Y),
+    (4, SECURITY_EXCHANGE, N),
+    (5, BROKER_LOCATION_ID, N),
+    (6, TRANSACTION_TIME, Y),
+    (7, SIDE, Y),
+    (8, ORIGINAL_CLIENT_ORDER_ID, N),
+    (9, ORDER_ID, Y),
+    (11, ORDER_TYPE, N),
+    (12, PRICE, N),
+    (13, ORDER_QUANTITY, N),
+    (14, TIME_IN_FORCE, N),
+    (15, POSITION_EFFECT, N),
+    (16, ORDER_RESTRICTIONS, N),
+    (17, MAX_PRICE_LEVELS, N),
+    (18, ORDER_CAPACITY, N),
+    (19, TEXT, N),
+    (21, EXECUTION_ID, Y),
+    (22, ORDER_STATUS, Y),
+    (23, EXEC_TYPE, Y),
+    (24, CUMULATIVE_QUANTITY, Y),
+    (25, LEAVES_QUANTITY, Y),
+    (27, LOT_TYPE, N),
+    (37, COPY_MESSAGE_INDICATOR, Y),
+    (43, SMP_ID, N),
+];
+
+/// 7.8.6 Auto-matched Trade (Board Lot Order Executed).
+pub const AUTO_MATCHED_TRADE: &[Line] = &[
+    (0, CLIENT_ORDER_ID, N),
+    (1, SUBMITTING_BROKER_ID, Y),
+    (2, SECURITY_ID, Y),
+    (3, SECURITY_ID_SOURCE, Y),
+    (4, SECURITY_EXCHANGE, N),
+    (5, BROKER_LOCATION_ID, N),
+    (6, TRANSACTION_TIME, Y),
+    (7, SIDE, Y),
+    (9, ORDER_ID, Y),
+    (11, ORDER_TYPE, N),
+    (12, PRICE, N),
+    (13, ORDER_QUANTITY, N),
+    (14, TIME_IN_FORCE, N),
+    (15, POSITION_EFFECT, N),
+    (16, ORDER_RESTRICTIONS, N),
+    (17, MAX_PRICE_LEVELS, N),
+    (18, ORDER_CAPACITY, N),
+    (19, TEXT, N),
+    (21, EXECUTION_ID, Y),
+    (22, ORDER_STATUS, Y),
+    (23, EXEC_TYPE, Y),
+    (24, CUMULATIVE_QUANTITY, Y),
+    (25, LEAVES_QUANTITY, Y),
+    (27, LOT_TYPE, N),
+    (30, MATCH_TYPE, N),
+    (31, COUNTERPARTY_BROKER_ID, N),
+    (32, EXECUTION_QUANTITY, Y),
+    (33, EXECUTION_PRICE, Y),
+    (35, ORDER_CATEGORY, N),
+    (37, COPY_MESSAGE_INDICATOR, Y),
+    (38, TRADE_MATCH_ID, N),
+    (42, AGGRESSOR_INDICATOR, N),
+];
+
+/// 7.8.7 Auto-matched Trade Cancel (Executed Trade Cancelled).
+pub const AUTO_MATCHED_TRADE_CANCEL: &[Line] = &[
+    (0, CLIENT_ORDER_ID, N),
+    (1, SUBMITTING_BROKER_ID, Y),
+    (2, SECURITY_ID, Y),
+    (3, SECURITY_ID_SOURCE, Y),
+    (4, SECURITY_EXCHANGE, N),
+    (5, BROKER_LOCATION_ID, N),
+    (6, TRANSACTION_TIME, Y),
+    (7, SIDE, Y),
+    (9, ORDER_ID, Y),
+    (11, ORDER_TYPE, N),
+    (12, PRICE, N),
+    (13, ORDER_QUANTITY, N),
+    (14, TIME_IN_FORCE, N),
+    (15, POSITION_EFFECT, N),
+    (16, ORDER_RESTRICTIONS, N),
+    (17, MAX_PRICE_LEVELS, N),
+    (18, ORDER_CAPACITY, N),
+    (19, TEXT, N),
+    (21, EXECUTION_ID, Y),
+    (22, ORDER_STATUS, Y),
+    (23, EXEC_TYPE, Y),
+    (24, CUMULATIVE_QUANTITY, Y),
+    (25, LEAVES_QUANTITY, Y),
+    (27, LOT_TYPE, N),
+    (28, EXEC_RESTATEMENT_REASON, N),
+    (32, EXECUTION_QUANTITY, N),
+    (33, EXECUTION_PRICE, N),
+    (34, REFERENCE_EXECUTION_ID, Y),
+    (35, ORDER_CATEGORY, N),
+    (37, COPY_MESSAGE_INDICATOR, Y),
+];
+
+/// 7.8.8 Trade (Odd lot/Special lot Order Executed).
+pub const ODD_LOT_TRADE: &[Line] = &[
+    (0, CLIENT_ORDER_ID, N),
+    (1, SUBMITTING_BROKER_ID, Y),
+    (2, SECURITY_ID, Y),
+    (3, SECURITY_ID_SOURCE, Y),
+    (4, SECURITY_EXCHANGE, N),
+    (5, BROKER_LOCATION_ID, N),
+    (6, TRANSACTION_TIME, Y),
+    (7, SIDE, Y),
+    (9, ORDER_ID, Y),
+    (11, ORDER_TYPE, N),
+    (12, PRICE, N),
+    (13, ORDER_QUANTITY, N),
+    (14, TIME_IN_FORCE, N),
+    (15, POSITION_EFFECT, N),
+    (18, ORDER_CAPACITY, N),
+    (19, TEXT, N),
+    (21, EXECUTION_ID, Y),
+    (22, ORDER_STATUS, Y),
+    (23, EXEC_TYPE, Y),
+    (24, CUMULATIVE_QUANTITY, Y),
+    (25, LEAVES_QUANTITY, Y),
+    (27, LOT_TYPE, N),
+    (31, COUNTERPARTY_BROKER_ID, N),
+    (32, EXECUTION_QUANTITY, Y),
+    (33, EXECUTION_PRICE, Y),
+    (35, ORDER_CATEGORY, N),
+    (37, COPY_MESSAGE_INDICATOR, Y),
+    (38, TRADE_MATCH_ID, N),
+    (39, EXCHANGE_TRADE_TYPE, N),
+];
+
+/// 7.8.9 Trade (Semi-auto-matched Trade Cancelled).
+pub const SEMI_AUTO_TRADE_CANCELLED: &[Line] = &[
+    (0, CLIENT_ORDER_ID, N),
+    (1, SUBMITTING_BROKER_ID, Y),
+    (2, SECURITY_ID, Y),
+    (3, SECURITY_ID_SOURCE, Y),
+    (4, SECURITY_EXCHANGE, N),
+    (5, BROKER_LOCATION_ID, N),
+    (6, TRANSACTION_TIME, Y),
+    (7, SIDE, Y),
+    (9, ORDER_ID, Y),
+    (11, ORDER_TYPE, N),
+    (12, PRICE, N),
+    (13, ORDER_QUANTITY, N),
+    (14, TIME_IN_FORCE, N),
+    (15, POSITION_EFFECT, N),
+    (18, ORDER_CAPACITY, N),
+    (19, TEXT, N),
+    (21, EXECUTION_ID, Y),
+    (22, ORDER_STATUS, Y),
+    (23, EXEC_TYPE, Y),
+    (24, CUMULATIVE_QUANTITY, Y),
+    (25, LEAVES_QUANTITY, Y),
+    (27, LOT_TYPE, N),
+    (28, EXEC_RESTATEMENT_REASON, N),
+    (32, EXECUTION_QUANTITY, N),
+    (33, EXECUTION_PRICE, N),
+    (34, REFERENCE_EXECUTION_ID, Y),
+    (35, ORDER_CATEGORY, N),
+    (37, COPY_MESSAGE_INDICATOR, Y),
+];
+
+/// The nine tables of type 10.
+pub const EXECUTION_REPORTS: [&[Line]; 9] = [
+    ORDER_ACCEPTED,
+    ORDER_CANCELLED,
+    ORDER_CANCELLED_UNSOLICITED,
+    ORDER_EXPIRED,
+    ORDER_AMENDED,
+    AUTO_MATCHED_TRADE,
+    AUTO_MATCHED_TRADE_CANCEL,
+    ODD_LOT_TRADE,
+    SEMI_AUTO_TRADE_CANCELLED,
+];
+
+/// What a type holds at a position.
+#[derive(Clone, Copy, Debug, PartialEq, Eq)]
+pub struct Entry {
+    pub field: Field,
+    pub required: bool,
+}
+
+type Entries = [Option<Entry>; 256];
+
+/// Tables that share positions: the known set is their union, and a position
+/// is required if all of them require it.
+const fn join(tables: &[&[Line]]) -> Entries {
+    let mut requiring = [0; 256];
+    let mut entries: Entries = [None; 256];
+    let mut t = 0;
+    while t < tables.len() {
+        let mut i = 0;
+        while i < tables[t].len() {
+            let (position, field, required) = tables[t][i];
+            if required {
+                requiring[position] += 1;
+            }
+            entries[position] = Some(Entry {
+                field,
+                required: requiring[position] == tables.len(),
+            });
+            i += 1;
+        }
+        t += 1;
+    }
+    entries
+}
+
+static ALL: [Entries; 11] = [
+    join(&[HEARTBEAT]),
+    join(&[TEST_REQUEST]),
+    join(&[RESEND_REQUEST]),
+    join(&[REJECT]),
+    join(&[SEQUENCE_RESET]),
+    join(&[LOGON]),
+    join(&[LOGOUT]),
+    join(&[LOOKUP_REQUEST]),
+    join(&[LOOKUP_RESPONSE]),
+    join(&[BUSINESS_MESSAGE_REJECT]),
+    join(&EXECUTION_REPORTS),
+];
+
+/// The field of a type at a position; None where no table of it names one, or
+/// for a type above 10.
+pub fn find(kind: u8, position: usize) -> Option<Entry> {
+    *ALL.get(usize::from(kind))?.get(position)?
+}
+
+#[cfg(test)]
+mod tests {
+    use super::*;
+
+    #[test]
+    fn the_nine_tables_agree_where_they_share_a_position() {
+        for table in EXECUTION_REPORTS {
+            for &(position, field, _) in table {
+                assert_eq!(find(10, position).map(|entry| entry.field), Some(field));
+            }
+        }
+    }
+
+    #[test]
+    fn positions_rise_in_every_table() {
+        let single = [
+            HEARTBEAT,
+            TEST_REQUEST,
+            RESEND_REQUEST,
+            REJECT,
+            SEQUENCE_RESET,
+            LOGON,
+            LOGOUT,
+            LOOKUP_REQUEST,
+            LOOKUP_RESPONSE,
+            BUSINESS_MESSAGE_REJECT,
+        ];
+        for table in single.iter().chain(EXECUTION_REPORTS.iter()) {
+            assert!(table.windows(2).all(|pair| pair[0].0 < pair[1].0));
+        }
+    }
+
+    #[test]
+    fn type_10_as_document_01_gives_it() {
+        let required: Vec<usize> = (0..256)
+            .filter(|&p| find(10, p).map_or(false, |entry| entry.required))
+            .collect();
+        assert_eq!(required, [1, 2, 3, 6, 7, 9, 21, 22, 23, 24, 25, 37]);
+        let unknown: Vec<usize> = (0..44).filter(|&p| find(10, p).is_none()).collect();
+        assert_eq!(unknown, [10, 26, 29, 36, 40, 41]);
+        assert_eq!(find(10, 43).map(|entry| entry.field), Some(SMP_ID));
+        assert!((44..300).all(|p| find(10, p).is_none()));
+        assert_eq!(find(11, 0), None);
+    }
+}

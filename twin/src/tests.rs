@@ -1,0 +1,1156 @@
+use crate::daysheet::daysheet;
+use crate::make::{self, Event, Given, Rng};
+use crate::plan::plan;
+use crate::reader::{self, Value};
+use crate::session::{Answer, Phase, Row, RowSort, Send, Session, LAST, NOTHING, NO_ROW};
+use crate::tables::{self, Sort};
+use crate::wire::{is_set, refuse, set, Refusal, LEAST, MAP_WIDTH, MOST};
+use crate::writer::{self, HeadValues};
+use crate::{crc, plain};
+
+const US: &[u8] = b"RECORDER01";
+
+fn head(kind: u8, number: u32) -> HeadValues {
+    HeadValues {
+        kind,
+        number,
+        poss_dup: 0,
+        poss_resend: 0,
+    }
+}
+
+fn map_of(positions: &[usize]) -> [u8; MAP_WIDTH] {
+    let mut map = [0; MAP_WIDTH];
+    for &position in positions {
+        set(&mut map, position);
+    }
+    map
+}
+
+/// A message by the writer.
+fn written(head: &HeadValues, positions: &[usize], body: &[u8]) -> Vec<u8> {
+    let mut out = [0; MOST];
+    let length = writer::write(head, US, &map_of(positions), body, &mut out).unwrap();
+    out[..length].to_vec()
+}
+
+/// A message framed as it is, right or wrong.
+fn framed(kind: u8, number: u32, positions: &[usize], body: &[u8]) -> Vec<u8> {
+    let given = Given {
+        kind,
+        number,
+        poss_dup: 0,
+        poss_resend: 0,
+        comp_id: US,
+    };
+    let mut comp_id = US.to_vec();
+    comp_id.resize(12, 0);
+    make::frame(&given, &comp_id, &map_of(positions), body)
+}
+
+/// The type 10 body with the required set alone.
+fn required_body() -> (Vec<usize>, Vec<u8>) {
+    let mut positions = Vec::new();
+    let mut body = Vec::new();
+    for position in 0..256 {
+        if let Some(entry) = tables::find(10, position) {
+            if entry.required {
+                positions.push(position);
+                body.resize(body.len() + entry.field.width, 0);
+            }
+        }
+    }
+    (positions, body)
+}
+
+// ---- The check figures of document 01 ----
+
+#[test]
+fn figure_required_set_of_type_10() {
+    let (positions, body) = required_body();
+    let mut map = [0; MAP_WIDTH];
+    map[..5].copy_from_slice(&[0x73, 0x40, 0x07, 0xC0, 0x04]);
+    assert_eq!(map_of(&positions), map);
+    let bytes = written(&head(10, 1), &positions, &body);
+    assert_eq!(reader::map(&bytes), map);
+    assert_eq!(reader::read(&bytes).unwrap().kind, 10);
+}
+
+#[test]
+fn figure_decimals() {
+    let mut out = [7; 9];
+    assert_eq!(writer::put_decimal(1_000_003_100_012, &mut out), Ok(8));
+    assert_eq!(out, [0x6C, 0x5D, 0xD4, 0xD4, 0xE8, 0, 0, 0, 7]);
+    assert_eq!(writer::put_decimal(-1, &mut out), Ok(8));
+    assert_eq!(out, [255, 255, 255, 255, 255, 255, 255, 255, 7]);
+
+    let (mut positions, body) = required_body();
+    positions.push(12);
+    // Price stands before position 21: after 12 + 21 + 1 + 25 + 1 + 21 bytes.
+    for (price, count) in [
+        ([0x6C, 0x5D, 0xD4, 0xD4, 0xE8, 0, 0, 0], 1_000_003_100_012),
+        ([255; 8], -1),
+    ] {
+        let mut body = body.clone();
+        body.splice(81..81, price);
+        let bytes = written(&head(10, 1), &positions, &body);
+        assert_eq!(reader::ask_number(&bytes, 12), Ok(Value::Decimal(count)));
+    }
+}
+
+#[test]
+fn figure_lengths() {
+    let resend = writer::resend_request(1, US, 1, 0).unwrap();
+    assert_eq!(resend.len(), 66);
+    assert_eq!(reader::map(&resend)[0], 0xC0);
+    let heartbeat = writer::heartbeat(1, US).unwrap();
+    assert_eq!(heartbeat.len(), 58);
+    assert_eq!(reader::read(&heartbeat).unwrap().length, 58);
+}
+
+#[test]
+fn figure_short_and_bad_starts() {
+    assert_eq!(reader::read(&[]), Err(refuse(1, 3)));
+    assert_eq!(reader::read(&[3]), Err(refuse(2, 0)));
+    assert_eq!(reader::read(&[2, 57, 0]), Err(refuse(3, 0)));
+    let mut bytes = [0; 57];
+    bytes[0] = 2;
+    bytes[1] = 58;
+    assert_eq!(reader::read(&bytes), Err(refuse(1, 58)));
+}
+
+#[test]
+fn figure_plans() {
+    let list = [0, 1, 0, 0, 1];
+    let mut out = [[9; 2]; 5];
+    assert_eq!(plan(&list, 1, 0, &mut out), Ok(4));
+    assert_eq!(out, [[1, 2], [2, 0], [3, 5], [5, 0], [9, 9]]);
+    let mut out = [[9; 2]; 2];
+    assert_eq!(plan(&list, 3, 3, &mut out), Ok(1));
+    assert_eq!(out, [[3, 4], [9, 9]]);
+    assert_eq!(plan(&list, 6, 0, &mut out), Err(refuse(40, 0)));
+}
+
+#[test]
+fn figure_daysheet() {
+    let input = b"kind=logon n=1 dup=0 new=0
+kind=business n=2 dup=0 new=0
+kind=business n=5 dup=0 new=0
+kind=gapfill n=3 dup=1 new=5
+kind=business n=5 dup=1 new=0
+kind=business n=2 dup=1 new=0
+";
+    let output = "sheet=1
+row=session first=1 last=1 next=2 out=none
+row=business first=2 last=2 next=3 out=none
+row=none first=0 last=0 next=3 out=resend
+row=filled first=3 last=4 next=5 out=none
+row=business first=5 last=5 next=6 out=none
+row=none first=0 last=0 next=6 out=none
+";
+    assert_eq!(String::from_utf8(daysheet(input)).unwrap(), output);
+    let unended = &input[..input.len() - 1];
+    assert_eq!(String::from_utf8(daysheet(unended)).unwrap(), output);
+}
+
+// ---- Daysheet ----
+
+#[test]
+fn daysheet_bad_lines() {
+    assert_eq!(daysheet(b""), b"sheet=1\n");
+    assert_eq!(daysheet(b"\n"), b"sheet=1\nbad=1\n");
+    for bad in [
+        "kind=logon n=0 dup=0 new=0",
+        "kind=logon n=1 dup=2 new=0",
+        "kind=logon n=1 dup=0 new=1",
+        "kind=business n=1 dup=0 new=3",
+        "kind=business n=4294967296 dup=0 new=0",
+        "kind=gapfill n=1 dup=0 new=99999999999999999999",
+        "kind=logon  n=1 dup=0 new=0",
+        "kind=logon n=1 dup=0 new=0 ",
+        " kind=logon n=1 dup=0 new=0",
+        "kind=logon n=1 dup=0",
+        "kind=logon n=1 new=0 dup=0",
+        "kind=logon n= dup=0 new=0",
+        "kind=logon n=+1 dup=0 new=0",
+        "kind=logout n=1 dup=0 new=0",
+        "kind=logon n=1 dup=0 new=0\r",
+    ] {
+        assert_eq!(daysheet(bad.as_bytes()), b"sheet=1\nbad=1\n", "{}", bad);
+    }
+    let text = b"kind=logon n=1 dup=0 new=0\nno\nkind=business n=2 dup=0 new=0\n";
+    let printed = String::from_utf8(daysheet(text)).unwrap();
+    assert_eq!(
+        printed,
+        "sheet=1\nrow=session first=1 last=1 next=2 out=none\nbad=2\n"
+    );
+}
+
+#[test]
+fn daysheet_stops_and_resets() {
+    let text = b"kind=logon n=1 dup=0 new=0
+kind=reset n=4294967295 dup=0 new=7
+kind=reset n=1 dup=0 new=7
+kind=business n=6 dup=0 new=0
+kind=business n=7 dup=0 new=0
+";
+    assert_eq!(
+        String::from_utf8(daysheet(text)).unwrap(),
+        "sheet=1
+row=session first=1 last=1 next=2 out=none
+row=reset first=2 last=6 next=7 out=none
+row=none first=0 last=0 next=7 out=none
+row=none first=0 last=0 next=7 out=logout
+row=none first=0 last=0 next=7 out=none
+"
+    );
+}
+
+// ---- Reader ----
+
+#[test]
+fn reader_refusals_in_order() {
+    let good = framed(2, 5, &[0, 1], &[1, 0, 0, 0, 0, 0, 0, 0]);
+    assert!(reader::read(&good).is_ok());
+    let refused = |bytes: &[u8]| reader::read(bytes).unwrap_err();
+
+    assert_eq!(refused(&[2]), refuse(1, 3));
+    assert_eq!(refused(&[2, 58]), refuse(1, 3));
+    assert_eq!(refused(&[0, 58]), refuse(2, 0));
+    assert_eq!(refused(&good[..65]), refuse(1, 66));
+    assert_eq!(refused(&[2, 1, 16]), refuse(3, 0)); // 4,097
+    assert_eq!(refused(&[2, 0, 16]), refuse(1, 4096));
+
+    let mut sum = good.clone();
+    sum[40] ^= 1;
+    assert_eq!(refused(&sum), refuse(4, 66));
+    assert_eq!(refused(&framed(11, 0, &[], &[])), refuse(5, 0));
+    assert_eq!(refused(&framed(0, 0, &[1], &[])), refuse(6, 0));
+    for (at, value) in [(8, 2), (9, 2), (10, 0), (10, 31), (19, 127)] {
+        let mut bytes = good.clone();
+        bytes[at] = value;
+        make::reseal(&mut bytes);
+        assert_eq!(refused(&bytes), refuse(6, 0));
+    }
+    let mut no_null = good.clone();
+    no_null[10..22].copy_from_slice(b"ABCDEFGHIJKL");
+    make::reseal(&mut no_null);
+    assert_eq!(refused(&no_null), refuse(6, 0));
+
+    assert_eq!(refused(&framed(2, 1, &[2, 255], &[])), refuse(7, 2));
+    assert_eq!(refused(&framed(2, 1, &[0, 1, 255], &[])), refuse(7, 255));
+    assert_eq!(refused(&framed(10, 1, &[10], &[])), refuse(7, 10));
+    assert_eq!(refused(&framed(2, 1, &[1], &[])), refuse(8, 1 - 1));
+    assert_eq!(refused(&framed(2, 1, &[0], &[])), refuse(8, 1));
+    assert_eq!(refused(&framed(2, 1, &[0, 1], &[0; 7])), refuse(9, 1));
+    assert_eq!(refused(&framed(2, 1, &[0, 1], &[0; 3])), refuse(9, 0));
+    assert_eq!(refused(&framed(2, 1, &[0, 1], &[0; 11])), refuse(10, 3));
+    assert_eq!(
+        refused(&framed(4, 1, &[0, 1], &[b'y', 1, 0, 0, 0])),
+        refuse(9, 0)
+    );
+}
+
+#[test]
+fn variable_texts() {
+    let logout = |body: &[u8]| framed(6, 1, &[0], body);
+    let text = |body: &[u8]| reader::ask_text(&logout(body), 0).map(|text| text.to_vec());
+    assert_eq!(text(&[1, 0, 0]), Ok(vec![]));
+    assert_eq!(text(&[3, 0, b'A', b'~', 0]), Ok(b"A~".to_vec()));
+    assert_eq!(text(&[5, 0, b'A', 0, 9, 200, 0]), Ok(b"A".to_vec()));
+    for bad in [
+        &[0, 0][..],
+        &[1][..],
+        &[],
+        &[1, 0],
+        &[1, 0, b'A'],
+        &[2, 0, b'A', b'B'],
+        &[2, 0, 31, 0],
+        &[2, 0, 127, 0],
+    ] {
+        assert_eq!(text(bad), Err(refuse(9, 0)), "{:?}", bad);
+    }
+    let long = |length: usize| {
+        let mut body = vec![length as u8, 0];
+        body.resize(2 + length - 1, b'A');
+        body.push(0);
+        text(&body)
+    };
+    assert_eq!(long(75).unwrap().len(), 74);
+    assert_eq!(long(76), Err(refuse(9, 0)));
+}
+
+#[test]
+fn asking() {
+    let logon = written(&head(5, 3), &[1, 2, 4], &{
+        let mut body = vec![b'p'; 449];
+        body.push(0);
+        body.extend_from_slice(&[9, 0, 0, 0, 3, 0, b'h', b'i', 0]);
+        body
+    });
+    assert_eq!(reader::ask_text(&logon, 1).unwrap().len(), 449);
+    assert_eq!(reader::ask_number(&logon, 2), Ok(Value::Number(9)));
+    assert_eq!(reader::ask_text(&logon, 4), Ok(&b"hi"[..]));
+    assert_eq!(reader::ask_text(&logon, 2), Err(refuse(14, 0)));
+    assert_eq!(reader::ask_number(&logon, 4), Err(refuse(14, 0)));
+    assert_eq!(reader::ask_number(&logon, 1), Err(refuse(14, 0)));
+    // 13 before 14: the Password is clear, whichever sort is asked.
+    assert_eq!(reader::ask_number(&logon, 0), Err(refuse(13, 0)));
+    assert_eq!(reader::ask_text(&logon, 5), Err(refuse(13, 0)));
+    for position in [6, 255, 256, 4096, u32::MAX] {
+        assert_eq!(
+            reader::ask_number(&logon, position),
+            Err(Refusal {
+                number: 7,
+                besides: position
+            })
+        );
+    }
+    assert_eq!(reader::comp_id(&logon), US);
+    assert_eq!(reader::body(&logon).len(), logon.len() - LEAST);
+    let cut = &logon[..logon.len() - 1];
+    assert_eq!(reader::ask_text(cut, 99), Err(refuse(1, logon.len())));
+    assert!(reader::comp_id(cut).is_empty());
+    assert!(reader::map(cut).is_empty());
+    assert!(reader::body(cut).is_empty());
+
+    let fill = writer::gap_fill(2, US, 7).unwrap();
+    assert_eq!(reader::ask_number(&fill, 0), Ok(Value::Number(89)));
+    assert_eq!(reader::read(&fill).unwrap().poss_dup, 1);
+}
+
+// ---- Writer ----
+
+#[test]
+fn writer_refusals_in_order() {
+    let body = [1, 0, 0, 0, 0, 0, 0, 0];
+    let map = map_of(&[0, 1]);
+    let refused = |head: &HeadValues, comp_id: &[u8], positions: &[usize], body: &[u8]| {
+        let mut out = [0xEE; MOST];
+        let result = writer::write(head, comp_id, &map_of(positions), body, &mut out);
+        assert!(out.iter().all(|&byte| byte == 0xEE));
+        result.unwrap_err()
+    };
+    assert_eq!(refused(&head(11, 0), b"", &[9], &[]), refuse(5, 0));
+    assert_eq!(refused(&head(2, 0), US, &[9], &[]), refuse(6, 0));
+    for comp_id in [&b""[..], b"ABCDEFGHIJKL", b"A\0", b"\x7f"] {
+        assert_eq!(refused(&head(2, 1), comp_id, &[9], &[]), refuse(6, 0));
+    }
+    for (poss_dup, poss_resend) in [(2, 0), (0, 2), (255, 1)] {
+        let head = HeadValues {
+            poss_dup,
+            poss_resend,
+            ..head(2, 1)
+        };
+        assert_eq!(refused(&head, US, &[0, 1], &body), refuse(6, 0));
+    }
+    assert_eq!(refused(&head(2, 1), US, &[9], &[]), refuse(7, 9));
+    assert_eq!(refused(&head(2, 1), US, &[1], &[]), refuse(8, 0));
+    assert_eq!(refused(&head(2, 1), US, &[0, 1], &[0; 7]), refuse(9, 1));
+    assert_eq!(
+        refused(&head(2, 1), US, &[0, 1], &[0; 5000]),
+        refuse(10, 4992)
+    );
+    let mut out = [0xEE; 70];
+    assert_eq!(
+        writer::write(&head(2, 1), US, &map, &body, &mut out[..65]),
+        Err(refuse(11, 66))
+    );
+    assert!(out.iter().all(|&byte| byte == 0xEE));
+    assert_eq!(
+        writer::write(&head(2, 1), b"ABCDEFGHIJK", &map, &body, &mut out),
+        Ok(66)
+    );
+    assert_eq!(&out[66..], [0xEE; 4]);
+    assert_eq!(reader::comp_id(&out), b"ABCDEFGHIJK");
+}
+
+#[test]
+fn text_writer() {
+    let mut out = [0xEE; 8];
+    assert_eq!(writer::put_text(b"AB", 5, &mut out), Ok(5));
+    assert_eq!(out, [b'A', b'B', 0, 0, 0, 0xEE, 0xEE, 0xEE]);
+    assert_eq!(writer::put_text(b"", 1, &mut out), Ok(1));
+    assert_eq!(writer::put_text(b"", 0, &mut []), Err(refuse(9, 0)));
+    assert_eq!(writer::put_text(b"", 4097, &mut []), Err(refuse(9, 0)));
+    assert_eq!(writer::put_text(b"AB", 2, &mut []), Err(refuse(9, 0)));
+    assert_eq!(writer::put_text(b"\x1f", 9, &mut []), Err(refuse(9, 0)));
+    assert_eq!(writer::put_text(b"\0", 9, &mut []), Err(refuse(9, 0)));
+    assert_eq!(writer::put_text(b"A", 9, &mut out), Err(refuse(11, 9)));
+    assert_eq!(writer::put_text(b"", 4096, &mut out), Err(refuse(11, 4096)));
+    assert_eq!(writer::put_u8(1, &mut []), Err(refuse(11, 1)));
+    assert_eq!(writer::put_u16(1, &mut out[..1]), Err(refuse(11, 2)));
+    assert_eq!(writer::put_u32(1, &mut out[..3]), Err(refuse(11, 4)));
+    assert_eq!(writer::put_u64(1, &mut out[..7]), Err(refuse(11, 8)));
+    assert_eq!(writer::put_decimal(1, &mut out[..7]), Err(refuse(11, 8)));
+    assert_eq!(writer::put_u16(0x0102, &mut out), Ok(2));
+    assert_eq!(out[..3], [2, 1, 0]);
+}
+
+#[test]
+fn session_messages() {
+    let logon = writer::logon(7, US, b"secret", 4).unwrap();
+    assert_eq!(logon.len(), 54 + 450 + 4 + 4);
+    assert_eq!(reader::ask_text(&logon, 0), Ok(&b"secret"[..]));
+    assert_eq!(reader::ask_number(&logon, 2), Ok(Value::Number(4)));
+    assert!(writer::logon(7, US, &[b'x'; 449], 4).is_ok());
+    assert_eq!(
+        writer::logon(7, US, &[b'x'; 450], 4),
+        Err(refuse(9, 0)),
+        "449 characters at most"
+    );
+    assert_eq!(writer::logon(7, US, b"\x80", 4), Err(refuse(9, 0)));
+    assert_eq!(writer::logon(0, US, b"\x80", 4), Err(refuse(9, 0)));
+    assert_eq!(writer::logon(0, US, b"x", 4), Err(refuse(6, 0)));
+
+    for (bytes, kind, length) in [
+        (writer::logout(1, US), 6, 58),
+        (writer::heartbeat(1, US), 0, 58),
+        (writer::heartbeat_for(1, US, 700), 0, 60),
+        (writer::test_request(1, US, 700), 1, 60),
+        (writer::resend_request(1, US, 1, 0), 2, 66),
+        (writer::gap_fill(1, US, 2), 4, 63),
+    ] {
+        let bytes = bytes.unwrap();
+        let head = reader::read(&bytes).unwrap();
+        assert_eq!(
+            (head.kind, head.length, bytes.len()),
+            (kind, length, length)
+        );
+        assert_eq!(head.poss_dup, (kind == 4) as u8);
+    }
+}
+
+/// Each type made, read, asked, written again in plain form, and read and asked
+/// again with the same answers.
+#[test]
+fn every_type_there_and_back() {
+    let mut rng = Rng::new(1);
+    for round in 0..400 {
+        for kind in 0..=10 {
+            let comp_id = make::comp_id(&mut rng);
+            let number = rng.any_u32().max(1);
+            let bytes = make::message(&mut rng, kind, number, &comp_id);
+            let head = reader::read(&bytes).unwrap_or_else(|r| panic!("{} {:?}", round, r));
+            assert_eq!((head.kind, head.number), (kind, number));
+            assert_eq!(head.length, bytes.len());
+            assert_eq!(reader::comp_id(&bytes), comp_id);
+            let mut map = [0; MAP_WIDTH];
+            map.copy_from_slice(reader::map(&bytes));
+            let values = HeadValues {
+                kind,
+                number,
+                poss_dup: head.poss_dup,
+                poss_resend: head.poss_resend,
+            };
+            let mut out = [0; MOST];
+            let body = reader::body(&bytes);
+            let length = writer::write(&values, &comp_id, &map, body, &mut out).unwrap();
+            let out = &out[..length];
+            let again = reader::read(out).unwrap();
+            assert_eq!(again, reader::Head { length, ..head });
+            assert_eq!(reader::map(out), map);
+            for position in 0..300 {
+                let number = reader::ask_number(&bytes, position);
+                let text = reader::ask_text(&bytes, position);
+                assert_eq!(number, reader::ask_number(out, position));
+                assert_eq!(text, reader::ask_text(out, position));
+                let entry = tables::find(kind, position as usize);
+                match entry {
+                    None => assert_eq!(text.unwrap_err().number, 7),
+                    Some(_) if !is_set(&map, position as usize) => {
+                        assert_eq!(text.unwrap_err().number, 13)
+                    }
+                    Some(entry) => {
+                        let is_text = matches!(entry.field.sort, Sort::Fixed | Sort::Variable);
+                        assert_eq!(text.is_ok(), is_text);
+                        assert_eq!(number.is_ok(), !is_text);
+                    }
+                }
+            }
+            // What is plain is written as it stands.
+            let mut twice = [0; MOST];
+            let body = reader::body(out);
+            let length = writer::write(&values, &comp_id, &map, body, &mut twice).unwrap();
+            assert_eq!(&twice[..length], out);
+        }
+    }
+}
+
+/// The wrong drawings of document 01 are refused.
+#[test]
+fn wrong_drawings() {
+    // Position 0 in the lowest bit.
+    let mut lowest = writer::test_request(1, US, 5).unwrap();
+    lowest[22] = 1;
+    make::reseal(&mut lowest);
+    assert_eq!(reader::read(&lowest), Err(refuse(7, 7)));
+    // A checksum over the body only.
+    let mut body_only = writer::test_request(1, US, 5).unwrap();
+    let sum = crc::crc32c(&body_only[54..56]).to_le_bytes();
+    body_only[56..].copy_from_slice(&sum);
+    assert_eq!(reader::read(&body_only), Err(refuse(4, 60)));
+    // A variable text whose length leaves out its null.
+    let without = framed(6, 1, &[0], &[2, 0, b'A', b'B', 0]);
+    assert_eq!(reader::read(&without), Err(refuse(9, 0)));
+}
+
+// ---- Plan ----
+
+#[test]
+fn plan_refusals() {
+    let mut out = [[9; 2]; 4];
+    let refused = |list: &[u8], start, end| {
+        let mut out = [[9; 2]; 4];
+        let result = plan(list, start, end, &mut out).unwrap_err();
+        assert_eq!(out, [[9; 2]; 4]);
+        result
+    };
+    assert_eq!(refused(&[], 1, 0), refuse(40, 0));
+    assert_eq!(refused(&[1, 2], 1, 1), refuse(40, 0));
+    assert_eq!(refused(&[1, 1], 0, 0), refuse(40, 0));
+    assert_eq!(refused(&[1, 1], 3, 0), refuse(40, 0));
+    assert_eq!(refused(&[1, 1], 2, 1), refuse(40, 0));
+    assert_eq!(refused(&vec![0; 65_537], 1, 0), refuse(40, 0));
+    assert_eq!(refused(&vec![1; 65_536], 1, 0), refuse(11, 65_536));
+    assert_eq!(plan(&vec![0; 65_536], 1, 0, &mut out), Ok(1));
+    assert_eq!(out[0], [1, 65_537]);
+    assert_eq!(plan(&[0, 0, 0, 1], 2, u32::MAX, &mut out), Ok(2));
+    assert_eq!(out[..2], [[2, 4], [4, 0]]);
+}
+
+/// The plan names each business number of the range once, rising, and the runs
+/// cover all the others.
+#[test]
+fn plan_covers() {
+    let mut rng = Rng::new(2);
+    for _ in 0..20_000 {
+        let list = make::list(&mut rng, 40);
+        let (start, end) = (rng.below(44) as u32, rng.below(44) as u32);
+        let mut out = [[0; 2]; 40];
+        let count = match plan(&list, start, end, &mut out) {
+            Ok(count) => count,
+            Err(refusal) => {
+                let bad = list.iter().any(|&b| b > 1)
+                    || start == 0
+                    || start as usize > list.len()
+                    || (end != 0 && end < start);
+                assert!(bad);
+                assert_eq!(refusal, refuse(40, 0));
+                continue;
+            }
+        };
+        let mut n = start;
+        let mut ran = false;
+        for &[first, new] in &out[..count] {
+            assert_eq!(first, n);
+            if new == 0 {
+                assert_eq!(list[n as usize - 1], 1);
+                ran = false;
+                n += 1;
+            } else {
+                assert!(new > first && !ran);
+                assert!((first..new).all(|n| list[n as usize - 1] == 0));
+                ran = true;
+                n = new;
+            }
+        }
+        let last = if end == 0 || end as usize > list.len() {
+            list.len() as u32
+        } else {
+            end
+        };
+        assert_eq!(n, last + 1);
+        if count > 0 {
+            assert_eq!(
+                plan(&list, start, end, &mut out[..count - 1]),
+                Err(refuse(11, count))
+            );
+        }
+    }
+}
+
+// ---- Session ----
+
+fn state(session: &Session) -> (Phase, u32, u32, u32) {
+    (session.phase, session.e, session.o, session.m)
+}
+
+fn waiting(e: u32, o: u32) -> Session {
+    let mut session = Session::saved(US, e, o - 1).unwrap();
+    session.connect(b"pw").unwrap();
+    assert_eq!(state(&session), (Phase::Waiting, e, o, 0));
+    session
+}
+
+fn live(e: u32, o: u32) -> Session {
+    Session {
+        phase: Phase::Live,
+        ..waiting(e, o)
+    }
+}
+
+fn logon(n: u32, next_expected: u32) -> Vec<u8> {
+    framed(5, n, &[2], &next_expected.to_le_bytes())
+}
+
+fn business(n: u32) -> Vec<u8> {
+    framed(9, n, &[0, 2], &[0; 3])
+}
+
+fn gap_fill(n: u32, new: u32) -> Vec<u8> {
+    framed(4, n, &[0, 1], &[&b"Y"[..], &new.to_le_bytes()].concat())
+}
+
+fn reset(n: u32, new: u32) -> Vec<u8> {
+    framed(4, n, &[1], &new.to_le_bytes())
+}
+
+fn resend(n: u32, start: u32, end: u32) -> Vec<u8> {
+    framed(
+        2,
+        n,
+        &[0, 1],
+        &[start.to_le_bytes(), end.to_le_bytes()].concat(),
+    )
+}
+
+fn test_request(n: u32) -> Vec<u8> {
+    framed(1, n, &[0], &[0x34, 0x12])
+}
+
+fn row(sort: RowSort, first: u32, last: u32) -> Row {
+    Row { sort, first, last }
+}
+
+fn stopped(code: u32, number: u32) -> Answer {
+    Answer {
+        code,
+        sends: [Send::Logout { number }, Send::None],
+        ..NOTHING
+    }
+}
+
+fn only(code: u32) -> Answer {
+    Answer { code, ..NOTHING }
+}
+
+/// A step that must be Stop(k).
+fn stops(mut session: Session, bytes: &[u8], code: u32) {
+    let before = session.clone();
+    let answer = session.step(bytes);
+    if before.o < LAST {
+        assert_eq!(answer, stopped(code, before.o));
+        assert_eq!(state(&session), (Phase::Down, before.e, before.o + 1, 0));
+    } else {
+        assert_eq!(answer, only(code));
+        assert_eq!(state(&session), (Phase::Down, before.e, before.o, 0));
+    }
+    assert_eq!(session.step(bytes), only(20));
+}
+
+#[test]
+fn session_states() {
+    assert_eq!(state(&Session::fresh(US).unwrap()), (Phase::Down, 1, 1, 0));
+    for bad in [&b""[..], b"ABCDEFGHIJKL", b"A\x1f"] {
+        assert_eq!(Session::fresh(bad), Err(refuse(6, 0)));
+        assert_eq!(Session::saved(bad, 0, 5), Err(refuse(23, 0)));
+        assert_eq!(Session::saved(bad, 5, 5), Err(refuse(6, 0)));
+    }
+    assert_eq!(Session::saved(US, 5, 0), Err(refuse(23, 0)));
+
+    let mut session = Session::saved(US, 9, 5).unwrap();
+    assert_eq!(session.step(&[]), only(20));
+    let before = session.clone();
+    assert_eq!(session.connect(&[b'x'; 450]), Err(refuse(9, 0)));
+    assert_eq!(session, before);
+    let sent = session.connect(b"pw").unwrap();
+    assert_eq!((sent.number, sent.next_expected), (5, 9));
+    assert_eq!(sent.bytes(US), writer::logon(5, US, b"pw", 9));
+    assert_eq!(state(&session), (Phase::Waiting, 9, 6, 0));
+    assert_eq!(session.connect(b"pw"), Err(refuse(21, 0)));
+    session.drop();
+    assert_eq!(state(&session), (Phase::Down, 9, 6, 0));
+
+    let mut session = Session::saved(US, 9, LAST).unwrap();
+    assert_eq!(session.connect(b"\0"), Err(refuse(22, 0)));
+    let mut session = Session::saved(US, 9, LAST - 1).unwrap();
+    assert!(session.connect(b"").is_ok());
+    assert_eq!(session.o, LAST);
+}
+
+#[test]
+fn session_reader_refusals() {
+    let mut session = live(3, 4);
+    session.m = 9;
+    let good = business(3);
+    let short = session.step(&good[..20]);
+    assert_eq!((short.code, short.besides), (1, good.len() as u32));
+    assert_eq!(short.sends, [Send::None; 2]);
+    let mut sum = good;
+    sum[30] ^= 1;
+    let bad_sum = session.step(&sum);
+    assert_eq!((bad_sum.code, bad_sum.besides), (4, sum.len() as u32));
+    assert_eq!(state(&session), (Phase::Live, 3, 4, 9));
+    let answer = session.step(&framed(2, 3, &[0, 1], &[0; 11]));
+    assert_eq!(
+        answer,
+        Answer {
+            besides: 3,
+            ..stopped(10, 4)
+        }
+    );
+    assert_eq!(state(&session), (Phase::Down, 3, 5, 0));
+    stops(live(3, 4), &[7], 2);
+    stops(live(3, 4), &[2, 0, 0], 3);
+    stops(waiting(3, LAST), &framed(11, 1, &[], &[]), 5);
+    stops(live(3, LAST), &framed(0, 0, &[], &[]), 6);
+}
+
+#[test]
+fn session_waiting() {
+    // 1 before 2.
+    let mut other = logon(0, 0);
+    other[10] = b'X';
+    make::reseal(&mut other);
+    stops(waiting(3, 4), &other, 6); // number 0
+    let mut other = logon(3, 4);
+    other[10] = b'X';
+    make::reseal(&mut other);
+    stops(waiting(3, 4), &other, 31);
+    let mut longer = logon(3, 4);
+    longer[20] = b'X';
+    make::reseal(&mut longer);
+    stops(waiting(3, 4), &longer, 31);
+
+    // Logout and Reject.
+    for bytes in [framed(6, 3, &[], &[]), framed(3, 3, &[0, 4], &[0; 6])] {
+        let mut session = waiting(3, 4);
+        assert_eq!(
+            session.step(&bytes),
+            Answer {
+                row: row(RowSort::Session, 3, 3),
+                ..NOTHING
+            }
+        );
+        assert_eq!(state(&session), (Phase::Down, 4, 4, 0));
+        for e in [2, 4] {
+            let mut session = waiting(e, 4);
+            assert_eq!(session.step(&bytes), NOTHING);
+            assert_eq!(state(&session), (Phase::Down, e, 4, 0));
+        }
+    }
+    let mut session = waiting(LAST, 4);
+    assert_eq!(session.step(&framed(6, LAST, &[], &[])), NOTHING);
+    assert_eq!(state(&session), (Phase::Down, LAST, 4, 0));
+
+    // Logon.
+    stops(waiting(3, 4), &logon(2, 0), 30);
+    stops(waiting(3, 4), &logon(3, 0), 35);
+    stops(waiting(3, 4), &logon(4, 5), 35);
+    stops(waiting(LAST, 4), &logon(LAST, 5), 35);
+    stops(waiting(LAST, 4), &logon(LAST, 4), 36);
+    let mut session = waiting(3, 4);
+    assert_eq!(
+        session.step(&logon(3, 4)),
+        Answer {
+            row: row(RowSort::Session, 3, 3),
+            ..NOTHING
+        }
+    );
+    assert_eq!(state(&session), (Phase::Live, 4, 4, 0));
+    let mut session = waiting(3, LAST);
+    assert_eq!(
+        session.step(&logon(LAST, 2)),
+        Answer {
+            sends: [
+                Send::GapFill {
+                    first: 2,
+                    new: LAST
+                },
+                Send::None
+            ],
+            ..NOTHING
+        }
+    );
+    assert_eq!(state(&session), (Phase::Live, 3, LAST, 0));
+    for kind in [0, 1, 2, 4, 7, 8, 9, 10] {
+        let mut rng = Rng::new(u64::from(kind));
+        stops(waiting(3, 4), &make::message(&mut rng, kind, 3, US), 32);
+    }
+}
+
+#[test]
+fn session_live_types_and_resets() {
+    for kind in [5, 7, 8] {
+        let mut rng = Rng::new(u64::from(kind));
+        stops(live(3, 4), &make::message(&mut rng, kind, 3, US), 32);
+    }
+    // 4: n is ignored, also a lower one and the last one.
+    for n in [1, 3, 9, LAST] {
+        stops(live(3, 4), &reset(n, 2), 33);
+        stops(live(3, 4), &reset(n, 0), 33);
+        let mut session = live(3, 4);
+        session.m = 5;
+        assert_eq!(session.step(&reset(n, 3)), NOTHING);
+        assert_eq!(state(&session), (Phase::Live, 3, 4, 5));
+        let answer = session.step(&reset(n, 5));
+        assert_eq!(answer.row, row(RowSort::Reset, 3, 4));
+        assert_eq!(state(&session), (Phase::Live, 5, 4, 5));
+        let with_n = framed(4, n, &[0, 1], &[b'N', 6, 0, 0, 0]);
+        assert_eq!(session.step(&with_n).row, row(RowSort::Reset, 5, 5));
+        assert_eq!(state(&session), (Phase::Live, 6, 4, 0));
+    }
+    let mut session = live(LAST, 4);
+    assert_eq!(session.step(&reset(LAST, LAST)), NOTHING);
+    let mut session = live(3, 4);
+    assert_eq!(
+        session.step(&reset(3, LAST)).row,
+        row(RowSort::Reset, 3, LAST - 1)
+    );
+}
+
+#[test]
+fn session_live_logout() {
+    for (e, o, n, taken) in [
+        (3, 4, 3, true),
+        (3, 4, 2, false),
+        (3, 4, 4, false),
+        (LAST, 4, LAST, false),
+        (3, LAST, 3, true),
+    ] {
+        let mut session = live(e, o);
+        let answer = session.step(&framed(6, n, &[], &[]));
+        let logout = if o < LAST {
+            Send::Logout { number: o }
+        } else {
+            Send::None
+        };
+        assert_eq!(answer.code, 0);
+        assert_eq!(answer.sends, [logout, Send::None]);
+        assert_eq!(
+            answer.row,
+            if taken {
+                row(RowSort::Session, e, e)
+            } else {
+                NO_ROW
+            }
+        );
+        let o = if o < LAST { o + 1 } else { o };
+        assert_eq!(state(&session), (Phase::Down, e + taken as u32, o, 0));
+    }
+}
+
+#[test]
+fn session_live_behind_and_ahead() {
+    // 6.
+    stops(live(3, 4), &business(2), 30);
+    let mut dup = business(2);
+    dup[8] = 1;
+    make::reseal(&mut dup);
+    let mut session = live(3, 4);
+    assert_eq!(session.step(&dup), NOTHING);
+    assert_eq!(state(&session), (Phase::Live, 3, 4, 0));
+
+    // 7: asked once, then again after M is passed.
+    let ask = |number, start| Answer {
+        sends: [
+            Send::ResendRequest {
+                number,
+                start,
+                end: 0,
+            },
+            Send::None,
+        ],
+        ..NOTHING
+    };
+    assert_eq!(session.step(&business(5)), ask(4, 3));
+    assert_eq!(state(&session), (Phase::Live, 3, 5, 5));
+    assert_eq!(session.step(&business(6)), NOTHING);
+    assert_eq!(session.step(&gap_fill(9, 2)), NOTHING);
+    assert_eq!(session.step(&gap_fill(3, 5)).row.last, 4);
+    assert_eq!(state(&session), (Phase::Live, 5, 5, 5));
+    assert_eq!(session.step(&business(7)), NOTHING);
+    assert_eq!(session.step(&business(5)).row.first, 5);
+    assert_eq!(state(&session), (Phase::Live, 6, 5, 0));
+    assert_eq!(session.step(&test_request(8)), ask(5, 6));
+    assert_eq!(session.m, 8);
+
+    // A Resend Request ahead is answered first.
+    let mut session = live(3, 9);
+    let answer = session.step(&resend(5, 2, 4));
+    assert_eq!(answer.sends[0], Send::GapFill { first: 2, new: 5 });
+    assert_eq!(answer.sends[1], ask(9, 3).sends[0]);
+    assert_eq!(state(&session), (Phase::Live, 3, 10, 5));
+    let answer = session.step(&resend(6, 2, 0));
+    assert_eq!(answer.sends[0], Send::GapFill { first: 2, new: 10 });
+    assert_eq!(answer.sends[1], Send::None);
+    stops(live(3, 9), &resend(5, 9, 0), 34);
+
+    // 22, but Stop(34) comes first, and a gap fill needs no number.
+    let mut session = live(3, LAST);
+    assert_eq!(session.step(&resend(5, 2, 0)), only(22));
+    assert_eq!(state(&session), (Phase::Down, 3, LAST, 0));
+    stops(live(3, LAST), &resend(5, 0, 0), 34);
+    let mut session = live(3, LAST);
+    session.m = 7;
+    let answer = session.step(&resend(5, 2, 0));
+    assert_eq!(
+        answer.sends,
+        [
+            Send::GapFill {
+                first: 2,
+                new: LAST
+            },
+            Send::None
+        ]
+    );
+    assert_eq!(state(&session), (Phase::Live, 3, LAST, 7));
+}
+
+#[test]
+fn session_live_in_turn() {
+    // 8.
+    stops(live(LAST, 4), &business(LAST), 36);
+    stops(live(LAST, LAST), &test_request(LAST), 36);
+    stops(live(LAST, 4), &gap_fill(LAST, 0), 36);
+    stops(live(LAST, 4), &resend(LAST, 0, 0), 36);
+    let mut session = live(LAST - 1, 4);
+    assert_eq!(session.step(&business(LAST - 1)).row.first, LAST - 1);
+    assert_eq!(session.e, LAST);
+
+    // 9.
+    stops(live(3, 4), &gap_fill(3, 3), 33);
+    stops(live(3, 4), &gap_fill(3, 0), 33);
+    let mut session = live(3, 4);
+    assert_eq!(
+        session.step(&gap_fill(3, LAST)),
+        Answer {
+            row: row(RowSort::Filled, 3, LAST - 1),
+            ..NOTHING
+        }
+    );
+    assert_eq!(state(&session), (Phase::Live, LAST, 4, 0));
+
+    let mut session = live(3, 4);
+    let answer = session.step(&test_request(3));
+    assert_eq!(
+        answer,
+        Answer {
+            sends: [
+                Send::Heartbeat {
+                    number: 4,
+                    id: 0x1234
+                },
+                Send::None
+            ],
+            row: row(RowSort::Session, 3, 3),
+            ..NOTHING
+        }
+    );
+    assert_eq!(
+        answer.sends[0].bytes(US),
+        writer::heartbeat_for(4, US, 0x1234)
+    );
+    assert_eq!(state(&session), (Phase::Live, 4, 5, 0));
+    let mut session = live(3, LAST);
+    assert_eq!(session.step(&test_request(3)), only(22));
+    assert_eq!(state(&session), (Phase::Down, 3, LAST, 0));
+
+    for (start, end, new) in [
+        (1, 0, Some(9)),
+        (8, 8, Some(9)),
+        (1, 7, Some(8)),
+        (1, 8, Some(9)),
+        (1, LAST, Some(9)),
+        (0, 0, None),
+        (9, 0, None),
+        (LAST, 0, None),
+        (5, 4, None),
+    ] {
+        let bytes = resend(3, start, end);
+        match new {
+            None => stops(live(3, 9), &bytes, 34),
+            Some(new) => {
+                let mut session = live(3, 9);
+                assert_eq!(
+                    session.step(&bytes),
+                    Answer {
+                        sends: [Send::GapFill { first: start, new }, Send::None],
+                        row: row(RowSort::Session, 3, 3),
+                        ..NOTHING
+                    }
+                );
+                assert_eq!(state(&session), (Phase::Live, 4, 9, 0));
+            }
+        }
+    }
+
+    let mut rng = Rng::new(3);
+    for (kind, sort) in [
+        (0, RowSort::Session),
+        (3, RowSort::Session),
+        (9, RowSort::Business),
+        (10, RowSort::Business),
+    ] {
+        let mut session = live(3, 4);
+        let answer = session.step(&make::message(&mut rng, kind, 3, US));
+        assert_eq!(
+            answer,
+            Answer {
+                row: row(sort, 3, 3),
+                ..NOTHING
+            }
+        );
+    }
+}
+
+// ---- Random input; plain against reader and session ----
+
+#[test]
+fn plain_sums_as_crc() {
+    let mut rng = Rng::new(4);
+    for count in 0..600 {
+        let bytes = rng.bytes(count);
+        assert_eq!(plain::crc32c(&bytes), crc::crc32c(&bytes));
+    }
+}
+
+#[test]
+fn plain_reads_as_reader() {
+    let mut rng = Rng::new(5);
+    let mut seen = [0u32; 11];
+    for _ in 0..60_000 {
+        let kind = rng.below(11) as u8;
+        let number = rng.any_u32().max(1);
+        let comp_id = make::comp_id(&mut rng);
+        let good = make::message(&mut rng, kind, number, &comp_id);
+        assert_eq!(plain::read(&good), reader::read(&good));
+        let mut bytes = make::spoil(&mut rng, &good);
+        if rng.chance(20) {
+            bytes = make::spoil(&mut rng, &bytes);
+        }
+        let answer = reader::read(&bytes);
+        assert_eq!(plain::read(&bytes), answer, "{:?}", bytes);
+        seen[answer.map_or_else(|r| r.number as usize, |_| 0)] += 1;
+    }
+    assert!(seen.iter().all(|&count| count > 0), "{:?}", seen);
+}
+
+#[test]
+fn random_bytes_never_panic() {
+    let mut rng = Rng::new(6);
+    for _ in 0..30_000 {
+        let count = rng.index(200);
+        let mut bytes = rng.bytes(count);
+        if count > 3 && rng.chance(90) {
+            bytes[0] = 2;
+            bytes[2] = 0;
+            bytes[3] %= 12;
+            make::reseal(&mut bytes);
+        }
+        assert_eq!(plain::read(&bytes), reader::read(&bytes));
+        let position = rng.below(300) as u32;
+        let _ = reader::ask_number(&bytes, position);
+        let _ = reader::ask_text(&bytes, position);
+        let mut session = live(3, 4);
+        session.step(&bytes);
+        let mut map = [0; MAP_WIDTH];
+        for byte in &mut map[..6] {
+            *byte = rng.byte();
+        }
+        let head = HeadValues {
+            kind: rng.below(12) as u8,
+            number: rng.below(3) as u32,
+            poss_dup: rng.below(3) as u8,
+            poss_resend: 0,
+        };
+        let _ = writer::write(&head, US, &map, &bytes, &mut [0; 300]);
+        daysheet(&bytes);
+    }
+}
+
+#[test]
+fn plain_steps_as_session() {
+    let mut rng = Rng::new(7);
+    let mut codes = [0u32; 41];
+    let mut rows = [0u32; 5];
+    let mut two_sends = 0;
+    for _ in 0..4_000 {
+        let start = make::start(&mut rng);
+        let mut slow = Session::saved(&start.comp_id, start.e, start.o).unwrap();
+        let mut fast = plain::Session::saved(&start.comp_id, start.e, start.o).unwrap();
+        for event in make::events(&mut rng, &start, 40) {
+            match event {
+                Event::Connect(password) => {
+                    let answer = slow.connect(&password);
+                    if let Err(refusal) = &answer {
+                        codes[refusal.number as usize] += 1;
+                    }
+                    assert_eq!(fast.connect(&password), answer);
+                }
+                Event::Drop => {
+                    slow.drop();
+                    fast.drop();
+                }
+                Event::Lend(bytes) => {
+                    let before = slow.clone();
+                    let answer = slow.step(&bytes);
+                    assert_eq!(fast.step(&bytes), answer, "{:?} {:?}", before, bytes);
+                    codes[answer.code as usize] += 1;
+                    rows[answer.row.sort as usize] += 1;
+                    two_sends += (answer.sends[1] != Send::None) as u32;
+                    for send in &answer.sends {
+                        let sent = send.bytes(&start.comp_id).unwrap();
+                        assert!(sent.is_empty() || reader::read(&sent).is_ok());
+                    }
+                }
+            }
+            assert_eq!((fast.phase, fast.e, fast.o, fast.m), state(&slow));
+            assert!(slow.phase != Phase::Down || slow.m == 0);
+        }
+    }
+    // The histories reach every code of a step or a connect.
+    for code in [0, 1, 2, 3, 4, 5, 6, 7, 8, 9, 10, 20, 21, 22]
+        .into_iter()
+        .chain(30..=36)
+    {
+        assert!(codes[code] > 0, "code {} {:?}", code, codes);
+    }
+    assert!(rows.iter().all(|&count| count > 0), "{:?}", rows);
+    assert!(two_sends > 0);
+}
+
+#[test]
+fn plain_takes_the_same_comp_ids() {
+    for comp_id in [
+        &b""[..],
+        b"A",
+        b"ABCDEFGHIJK",
+        b"ABCDEFGHIJKL",
+        b"A\0B",
+        b"A\x7f",
+        b" ~",
+    ] {
+        for (e, o) in [(0, 1), (1, 0), (1, 1), (LAST, LAST)] {
+            assert_eq!(
+                plain::Session::saved(comp_id, e, o).map(|s| (s.e, s.o, s.m)),
+                Session::saved(comp_id, e, o).map(|s| (s.e, s.o, s.m))
+            );
+        }
+    }
+}
+
+/// Histories of messages alone stay in step long enough to be of use.
+#[test]
+fn histories() {
+    let mut rng = Rng::new(8);
+    let mut steps = 0;
+    for _ in 0..300 {
+        let start = make::start(&mut rng);
+        steps += make::history(&mut rng, &start, 60).len();
+        let sheet = make::sheet(&mut rng, 20);
+        assert!(daysheet(&sheet).starts_with(b"sheet=1\n"));
+    }
+    assert!(steps > 300 * 8, "{}", steps);
+}

@@ -1,0 +1,244 @@
+//! The writer (document 01, "What is handed back"), the small writers, and the
+//! messages that a session sends.
+
+use crate::crc::crc32c;
+use crate::tables::{self, Sort};
+use crate::wire::*;
+
+/// The header values that the caller gives; the Comp ID comes beside them.
+#[derive(Clone, Copy, Debug, PartialEq, Eq)]
+pub struct HeadValues {
+    pub kind: u8,
+    pub number: u32,
+    pub poss_dup: u8,
+    pub poss_resend: u8,
+}
+
+/// 12 before 11: a message above 4,096 has no right length at all.
+fn check_room(length: usize, room: usize) -> Result<(), Refusal> {
+    if length > MOST {
+        return Err(refuse(TOO_LONG, 0));
+    }
+    if length > room {
+        return Err(refuse(NO_ROOM, length));
+    }
+    Ok(())
+}
+
+/// Refusals 5 and 6. The Comp ID comes as its characters, without a null.
+fn check_head(head: &HeadValues, comp_id: &[u8]) -> Result<(), Refusal> {
+    if head.kind > 10 {
+        return Err(refuse(UNKNOWN_TYPE, 0));
+    }
+    if head.number == 0 || head.poss_dup > 1 || head.poss_resend > 1 || !is_comp_id(comp_id) {
+        return Err(refuse(BAD_HEADER, 0));
+    }
+    Ok(())
+}
+
+/// The body in plain form: zeros after a fixed text's null, nothing after a
+/// variable text's null.
+fn plain_body(fields: &[Found]) -> Vec<u8> {
+    let mut body = Vec::new();
+    for found in fields {
+        match found.field.sort {
+            Sort::Number | Sort::Byte | Sort::Decimal => body.extend_from_slice(found.whole),
+            Sort::Fixed => {
+                let end = body.len() + found.field.width;
+                body.extend_from_slice(found.text);
+                body.resize(end, 0);
+            }
+            Sort::Variable => {
+                let length = found.text.len() as u16 + 1;
+                body.extend_from_slice(&length.to_le_bytes());
+                body.extend_from_slice(found.text);
+                body.push(0);
+            }
+        }
+    }
+    body
+}
+
+/// Writes a message in plain form at the front of `out` and gives its length.
+/// Refusals 5 to 10, then 12, then 11; a refusal leaves `out` as it was.
+pub fn write(
+    head: &HeadValues,
+    comp_id: &[u8],
+    map: &[u8; MAP_WIDTH],
+    body: &[u8],
+    out: &mut [u8],
+) -> Result<usize, Refusal> {
+    check_head(head, comp_id)?;
+    let fields = walk(head.kind, map, body)?;
+    let body = plain_body(&fields);
+    let length = BODY_AT + body.len() + TRAILER;
+    check_room(length, out.len())?;
+
+    let mut message = vec![START];
+    message.extend_from_slice(&(length as u16).to_le_bytes());
+    message.push(head.kind);
+    message.extend_from_slice(&head.number.to_le_bytes());
+    message.push(head.poss_dup);
+    message.push(head.poss_resend);
+    message.extend_from_slice(comp_id);
+    message.resize(MAP_AT, 0);
+    message.extend_from_slice(map);
+    message.extend_from_slice(&body);
+    let sum = crc32c(&message);
+    message.extend_from_slice(&sum.to_le_bytes());
+    out[..length].copy_from_slice(&message);
+    Ok(length)
+}
+
+/// Lays bytes at the front of a slice; 11 with the length needed.
+fn put(bytes: &[u8], out: &mut [u8]) -> Result<usize, Refusal> {
+    if out.len() < bytes.len() {
+        return Err(refuse(NO_ROOM, bytes.len()));
+    }
+    out[..bytes.len()].copy_from_slice(bytes);
+    Ok(bytes.len())
+}
+
+pub fn put_u8(value: u8, out: &mut [u8]) -> Result<usize, Refusal> {
+    put(&[value], out)
+}
+
+pub fn put_u16(value: u16, out: &mut [u8]) -> Result<usize, Refusal> {
+    put(&value.to_le_bytes(), out)
+}
+
+pub fn put_u32(value: u32, out: &mut [u8]) -> Result<usize, Refusal> {
+    put(&value.to_le_bytes(), out)
+}
+
+pub fn put_u64(value: u64, out: &mut [u8]) -> Result<usize, Refusal> {
+    put(&value.to_le_bytes(), out)
+}
+
+/// A Decimal as its count of hundred-millionths.
+pub fn put_decimal(value: i64, out: &mut [u8]) -> Result<usize, Refusal> {
+    put(&value.to_le_bytes(), out)
+}
+
+/// What the text writer refuses with 9, position 0: a width of 0 or above
+/// 4,096, a bad character, or a text of more than its width less one.
+pub fn check_text(text: &[u8], width: usize) -> Result<(), Refusal> {
+    let good_width = width != 0 && width <= MOST;
+    if !good_width || text.len() > width - 1 || !text.iter().all(|&byte| is_character(byte)) {
+        return Err(refuse(BAD_FIELD, 0));
+    }
+    Ok(())
+}
+
+/// The text writer: the characters, then zeros up to the width.
+pub fn put_text(text: &[u8], width: usize, out: &mut [u8]) -> Result<usize, Refusal> {
+    check_text(text, width)?;
+    let mut bytes = text.to_vec();
+    bytes.resize(width, 0);
+    put(&bytes, out)
+}
+
+/// A message of ours: the fields given by position, plain flags.
+fn sent(
+    head: HeadValues,
+    comp_id: &[u8],
+    positions: &[usize],
+    body: &[u8],
+) -> Result<Vec<u8>, Refusal> {
+    let mut map = [0; MAP_WIDTH];
+    for &position in positions {
+        set(&mut map, position);
+    }
+    let mut out = [0; MOST];
+    let length = write(&head, comp_id, &map, body, &mut out)?;
+    Ok(out[..length].to_vec())
+}
+
+fn flags_zero(kind: u8, number: u32) -> HeadValues {
+    HeadValues {
+        kind,
+        number,
+        poss_dup: 0,
+        poss_resend: 0,
+    }
+}
+
+/// Logon (5): Password and Next Expected. The text writer lays the password
+/// down before the message is written, so its 9 comes before a bad header's 6.
+pub fn logon(
+    number: u32,
+    comp_id: &[u8],
+    password: &[u8],
+    next_expected: u32,
+) -> Result<Vec<u8>, Refusal> {
+    let width = tables::PASSWORD.width;
+    check_text(password, width)?;
+    let mut body = password.to_vec();
+    body.resize(width, 0);
+    body.extend_from_slice(&next_expected.to_le_bytes());
+    sent(flags_zero(5, number), comp_id, &[0, 2], &body)
+}
+
+/// Logout (6): no field.
+pub fn logout(number: u32, comp_id: &[u8]) -> Result<Vec<u8>, Refusal> {
+    sent(flags_zero(6, number), comp_id, &[], &[])
+}
+
+/// Heartbeat (0) that echoes a Test Request ID.
+pub fn heartbeat_for(number: u32, comp_id: &[u8], id: u16) -> Result<Vec<u8>, Refusal> {
+    sent(flags_zero(0, number), comp_id, &[0], &id.to_le_bytes())
+}
+
+/// Heartbeat (0) of its own accord: no field.
+pub fn heartbeat(number: u32, comp_id: &[u8]) -> Result<Vec<u8>, Refusal> {
+    sent(flags_zero(0, number), comp_id, &[], &[])
+}
+
+/// Test Request (1).
+pub fn test_request(number: u32, comp_id: &[u8], id: u16) -> Result<Vec<u8>, Refusal> {
+    sent(flags_zero(1, number), comp_id, &[0], &id.to_le_bytes())
+}
+
+/// Resend Request (2); an end of 0 asks for all.
+pub fn resend_request(
+    number: u32,
+    comp_id: &[u8],
+    start: u32,
+    end: u32,
+) -> Result<Vec<u8>, Refusal> {
+    let mut body = start.to_le_bytes().to_vec();
+    body.extend_from_slice(&end.to_le_bytes());
+    sent(flags_zero(2, number), comp_id, &[0, 1], &body)
+}
+
+/// Sequence Reset (4) as a gap fill: it bears the first number it covers, and
+/// PossDup 1.
+pub fn gap_fill(first: u32, comp_id: &[u8], new: u32) -> Result<Vec<u8>, Refusal> {
+    let head = HeadValues {
+        poss_dup: 1,
+        ..flags_zero(4, first)
+    };
+    let mut body = vec![b'Y'];
+    body.extend_from_slice(&new.to_le_bytes());
+    sent(head, comp_id, &[0, 1], &body)
+}
+
+#[cfg(test)]
+mod tests {
+    use super::*;
+
+    /// No type's tables reach 4,096, so 12 can be shown only here.
+    #[test]
+    fn too_long_comes_before_no_room() {
+        assert_eq!(check_room(4096, 4096), Ok(()));
+        assert_eq!(check_room(4097, 0), Err(refuse(12, 0)));
+        assert_eq!(check_room(4096, 4095), Err(refuse(11, 4096)));
+        for kind in 0..=10 {
+            let most: usize = (0..256)
+                .filter_map(|position| tables::find(kind, position))
+                .map(|entry| entry.field.width + 2)
+                .sum();
+            assert!(LEAST + most < MOST);
+        }
+    }
+}
