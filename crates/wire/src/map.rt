@@ -24,10 +24,13 @@ pub fn is_present(map: &[u8], p: usize) -> bool
     bit_at(byte, (p % 8) as u8)
 }
 
-// The first set bit of a map byte at or after bit `from`, and 8 where there is none.
+// The first set bit of a map byte at or after bit `from`, and 8 where there is none, as in most bytes of a map.
 pub fn next_bit(byte: u8, from: u8) -> u8
     ensures { λ r. ⌜ r ≡ nextBit byte from ⌝ }
 {
+    if byte == 0 {
+        return 8;
+    }
     let mut j = from;
     while j < 8 {
         if bit_at(byte, j) {
