@@ -212,7 +212,9 @@ featherloom_written featherloom_write(uint8_t *buffer, size_t room, featherloom_
 
 /*
  * The session of one day. It is a value: give it to a call, keep the one that comes back. Every call checks it first, and
- * refuses with FEATHERLOOM_NOT_A_SESSION a session that no day has.
+ * refuses with FEATHERLOOM_NOT_A_SESSION a session that no day has. One that some day has: the state is 0, 1 or 2; the Comp
+ * ID has 1 to 11 characters and then zeros; E is at least 1; O is at least 1 if Down, else 2; M is 0, or the session is Live,
+ * M is at least 2 and at least E, and O is at least 3. A session that a call gave beside refusal 0 is always one.
  */
 
 enum { FEATHERLOOM_STATE_DOWN = 0, FEATHERLOOM_STATE_WAITING = 1, FEATHERLOOM_STATE_LIVE = 2 };
