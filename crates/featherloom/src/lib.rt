@@ -20,65 +20,65 @@ ghost use Rattle.capi.specs.Sessions.{freshC, savedC, connectC, dropC, stepC, s
 ghost use Rattle.capi.specs.Writing.{shownWritten, headerOf};
 
 #[no_mangle]
-pub extern "C" fn featherloom_read(s: &[u8]) -> CReading
-    ensures { λ r. ⌜ r ≡ readC (now (s .entry)) ⌝ }
+pub extern "C" fn featherloom_read(bytes: &[u8]) -> CReading
+    ensures { λ r. ⌜ r ≡ readC (now (bytes .entry)) ⌝ }
 {
-    capi::read::read_c(s)
+    capi::read::read_c(bytes)
 }
 
 #[no_mangle]
-pub extern "C" fn featherloom_comp_id(s: &[u8]) -> CPart
-    ensures { λ r. ⌜ r ≡ compIdC (now (s .entry)) ⌝ }
+pub extern "C" fn featherloom_comp_id(bytes: &[u8]) -> CPart
+    ensures { λ r. ⌜ r ≡ compIdC (now (bytes .entry)) ⌝ }
 {
-    capi::read::comp_id_c(s)
+    capi::read::comp_id_c(bytes)
 }
 
 #[no_mangle]
-pub extern "C" fn featherloom_map(s: &[u8]) -> CPart
-    ensures { λ r. ⌜ r ≡ mapC (now (s .entry)) ⌝ }
+pub extern "C" fn featherloom_map(bytes: &[u8]) -> CPart
+    ensures { λ r. ⌜ r ≡ mapC (now (bytes .entry)) ⌝ }
 {
-    capi::read::map_c(s)
+    capi::read::map_c(bytes)
 }
 
 #[no_mangle]
-pub extern "C" fn featherloom_body(s: &[u8]) -> CPart
-    ensures { λ r. ⌜ r ≡ bodyC (now (s .entry)) ⌝ }
+pub extern "C" fn featherloom_body(bytes: &[u8]) -> CPart
+    ensures { λ r. ⌜ r ≡ bodyC (now (bytes .entry)) ⌝ }
 {
-    capi::read::body_c(s)
+    capi::read::body_c(bytes)
 }
 
 #[no_mangle]
-pub extern "C" fn featherloom_ask(s: &[u8], p: usize) -> CValue
-    ensures { λ r. ⌜ r ≡ askC (now (s .entry)) p ⌝ }
+pub extern "C" fn featherloom_ask(bytes: &[u8], position: usize) -> CValue
+    ensures { λ r. ⌜ r ≡ askC (now (bytes .entry)) position ⌝ }
 {
-    capi::read::ask_c(s, p)
+    capi::read::ask_c(bytes, position)
 }
 
 #[no_mangle]
-pub extern "C" fn featherloom_text(s: &[u8], p: usize) -> CPart
-    ensures { λ r. ⌜ r ≡ textC (now (s .entry)) p ⌝ }
+pub extern "C" fn featherloom_text(bytes: &[u8], position: usize) -> CPart
+    ensures { λ r. ⌜ r ≡ textC (now (bytes .entry)) position ⌝ }
 {
-    capi::read::text_c(s, p)
+    capi::read::text_c(bytes, position)
 }
 
 #[no_mangle]
-pub extern "C" fn featherloom_crc32c(s: &[u8]) -> u32
-    ensures { λ r. ⌜ r ≡ crc32c (now (s .entry)) ⌝ }
+pub extern "C" fn featherloom_crc32c(bytes: &[u8]) -> u32
+    ensures { λ r. ⌜ r ≡ crc32c (now (bytes .entry)) ⌝ }
 {
-    crc::crc32c(s)
+    crc::crc32c(bytes)
 }
 
 #[no_mangle]
 pub extern "C" fn featherloom_write(
-    d: &mut [u8],
+    buffer: &mut [u8],
     header: CHeader,
     comp: &[u8],
     map: &[u8; 32],
     body: &[u8],
 ) -> CWritten
-    ensures { λ r. ⌜ (r ≡ shownWritten (writeOf (headerOf header) (now (comp .entry)) (now (map .entry)) (now (body .entry)) (now (d .entry)))) × (now (d .exit) ≡ written (headerOf header) (now (comp .entry)) (now (map .entry)) (now (body .entry)) (now (d .entry))) ⌝ }
+    ensures { λ r. ⌜ (r ≡ shownWritten (writeOf (headerOf header) (now (comp .entry)) (now (map .entry)) (now (body .entry)) (now (buffer .entry)))) × (now (buffer .exit) ≡ written (headerOf header) (now (comp .entry)) (now (map .entry)) (now (body .entry)) (now (buffer .entry))) ⌝ }
 {
-    capi::write::write_c(d, header, comp, map, body)
+    capi::write::write_c(buffer, header, comp, map, body)
 }
 
 #[no_mangle]
@@ -89,56 +89,61 @@ pub extern "C" fn featherloom_fresh(comp: &[u8]) -> CMade
 }
 
 #[no_mangle]
-pub extern "C" fn featherloom_saved(comp: &[u8], e: u32, o: u32) -> CMade
-    ensures { λ r. ⌜ r ≡ savedC (now (comp .entry)) e o ⌝ }
+pub extern "C" fn featherloom_saved(comp: &[u8], expected: u32, own: u32) -> CMade
+    ensures { λ r. ⌜ r ≡ savedC (now (comp .entry)) expected own ⌝ }
 {
-    capi::sessions::saved_c(comp, e, o)
+    capi::sessions::saved_c(comp, expected, own)
 }
 
 #[no_mangle]
-pub extern "C" fn featherloom_connect(c: CSession, password: &[u8]) -> CConnected
-    ensures { λ r. ⌜ r ≡ connectC c (now (password .entry)) ⌝ }
+pub extern "C" fn featherloom_connect(session: CSession, password: &[u8]) -> CConnected
+    ensures { λ r. ⌜ r ≡ connectC session (now (password .entry)) ⌝ }
 {
-    capi::sessions::connect_c(c, password)
+    capi::sessions::connect_c(session, password)
 }
 
 #[no_mangle]
-pub extern "C" fn featherloom_drop(c: CSession) -> CMade
-    ensures { λ r. ⌜ r ≡ dropC c ⌝ }
+pub extern "C" fn featherloom_drop(session: CSession) -> CMade
+    ensures { λ r. ⌜ r ≡ dropC session ⌝ }
 {
-    capi::sessions::drop_c(c)
+    capi::sessions::drop_c(session)
 }
 
 #[no_mangle]
-pub extern "C" fn featherloom_step(c: CSession, s: &[u8]) -> CStepped
-    ensures { λ r. ⌜ r ≡ stepC c (now (s .entry)) ⌝ }
+pub extern "C" fn featherloom_step(session: CSession, bytes: &[u8]) -> CStepped
+    ensures { λ r. ⌜ r ≡ stepC session (now (bytes .entry)) ⌝ }
 {
-    capi::sessions::step_c(c, s)
+    capi::sessions::step_c(session, bytes)
 }
 
 #[no_mangle]
-pub extern "C" fn featherloom_put(d: &mut [u8], c: CSession, x: CSend) -> CWritten
-    ensures { λ r. ⌜ (r ≡ sendC c x (now (d .entry))) × (now (d .exit) ≡ sentC c x (now (d .entry))) ⌝ }
+pub extern "C" fn featherloom_put(buffer: &mut [u8], session: CSession, send: CSend) -> CWritten
+    ensures { λ r. ⌜ (r ≡ sendC session send (now (buffer .entry))) × (now (buffer .exit) ≡ sentC session send (now (buffer .entry))) ⌝ }
 {
-    capi::sessions::send_c(d, c, x)
+    capi::sessions::send_c(buffer, session, send)
 }
 
 #[no_mangle]
 pub extern "C" fn featherloom_put_logon(
-    d: &mut [u8],
-    c: CSession,
+    buffer: &mut [u8],
+    session: CSession,
     number: u32,
     password: &[u8],
     next: u32,
 ) -> CWritten
-    ensures { λ r. ⌜ (r ≡ logonC c number (now (password .entry)) next (now (d .entry))) × (now (d .exit) ≡ logonSentC c number (now (password .entry)) next (now (d .entry))) ⌝ }
+    ensures { λ r. ⌜ (r ≡ logonC session number (now (password .entry)) next (now (buffer .entry))) × (now (buffer .exit) ≡ logonSentC session number (now (password .entry)) next (now (buffer .entry))) ⌝ }
 {
-    capi::sessions::logon_c(d, c, number, password, next)
+    capi::sessions::logon_c(buffer, session, number, password, next)
 }
 
 #[no_mangle]
-pub extern "C" fn featherloom_plan(list: &[u8], s: u32, e: u32, d: &mut [u32]) -> CPlanned
-    ensures { λ r. ⌜ (r ≡ shownPlanned (planOf (now (list .entry)) s e (now (d .entry)))) × (now (d .exit) ≡ planned (now (list .entry)) s e (now (d .entry))) ⌝ }
+pub extern "C" fn featherloom_plan(
+    list: &[u8],
+    start: u32,
+    end: u32,
+    numbers: &mut [u32],
+) -> CPlanned
+    ensures { λ r. ⌜ (r ≡ shownPlanned (planOf (now (list .entry)) start end (now (numbers .entry)))) × (now (numbers .exit) ≡ planned (now (list .entry)) start end (now (numbers .entry))) ⌝ }
 {
-    capi::planning::plan_c(list, s, e, d)
+    capi::planning::plan_c(list, start, end, numbers)
 }

@@ -1,4 +1,4 @@
--- Numbers and Decimals as decimal text.
+-- Numbers and Decimals as decimal text. A Decimal is a signed count of hundred-millionths (004 section 6.1, row 4; document 01, "The frame").
 use Prim.Native.Nat.{ℕ, zero, suc, _+_, _/_, _%_, _^_}
 use mathlib.Core.Bool.{cond}
 use mathlib.Core.List.{List, [], _∷_, _++_}

@@ -22,7 +22,7 @@ use Rattle.fields.specs.Value.{sortValue, sortText, valueIn, valueAt, textIn, t
 use Rattle.fields.specs.Walk.{positions, walkFrom, walkOf, after, restAfter, restAt}
 use Rattle.fields.proofs.CheckLaws.{Names, names-check, checkAt-within, checkAt-good}
 use Rattle.fields.proofs.PlainLaws.{PlainField, plain-field, plain-by-values}
-use Rattle.fields.proofs.PositionLaws.{later, later-set, later-clear, later-end, positions-split}
+use Rattle.fields.proofs.PositionLaws.{later, later-set, later-clear, later-end, positions-at, positions-split}
 use Rattle.fields.proofs.ValueLaws.{row-value, row-text}
 use Rattle.fields.proofs.WalkLaws.{own-fields, walk-first}
 use Rattle.fields.proofs.WidthLaws.{width-most, number-most}
@@ -31,13 +31,10 @@ use Rattle.writer.specs.Plain.{plainAt, plainFrom, plainFields}
 use Rattle.writer.proofs.FieldsLaws.{plain-first, plain-rest, names-plain, agree-fields}
 
 -- the positions before p, and those from p on
-positions-at : (m : List ℕ) (p : ℕ) → p < 256 → positions m 256 0 ≡ positions m (min p 256) 0 ++ later m 256 p
-positions-at m p l =
-    let a : p + (256 - p) ≡ 256 = omega arith in
-    let b : 0 + p ≡ p = omega arith in
+split-at : (m : List ℕ) (p : ℕ) → p < 256 → positions m 256 0 ≡ positions m (min p 256) 0 ++ later m 256 p
+split-at m p l =
     let c : p ≤ 256 = omega arith in
-    ap (λ (k : ℕ). positions m k 0) (sym a) ∙ positions-split m p (256 - p) 0
-    ∙ ap₂ (λ (k q : ℕ). positions m k 0 ++ positions m (256 - p) q) (sym (min-eq-left c)) b
+    positions-at m 256 p c ∙ ap (λ (k : ℕ). positions m k 0 ++ later m 256 p) (sym (min-eq-left c))
 
 module _ (kind : ℕ) (m body : List ℕ) (left plain : ℕ) (e : walkOf kind m body ≡ Done left plain) where
   -- where the field at position p begins in the plain form, its own plain form stands, and some bytes behind it
@@ -56,7 +53,7 @@ module _ (kind : ℕ) (m body : List ℕ) (left plain : ℕ) (e : walkOf kind m 
         let ps = positions m (min p 256) 0 in
         let qs = later m 256 p in
         let s = restAt kind m body p in
-        let split = positions-at m p l in
+        let split = split-at m p l in
         ap (λ (xs : List ℕ). restAfter f ps (plainFrom f g xs body ++ r)) split
         ∙ plain-rest f g (own-fields kind) (agree-fields kind) left plain ps qs 0 body (rw split at e) r
         ∙ ap (λ (xs : List ℕ). plainFrom f g xs s ++ r) (later-set m 256 p l here)
