@@ -24,21 +24,26 @@ pub fn is_present(map: &[u8], p: usize) -> bool
     bit_at(byte, (p % 8) as u8)
 }
 
-// The first set bit of a map byte at or after bit `from`, and 8 where there is none, as in most bytes of a map.
+// The first set bit of a map byte at or after bit `from`, and 8 where there is none.
+//
+// The highest bit of a byte is its position 0, so the byte's first set position is the count of the zeros that lead it.
+// The rest of the byte is the byte with every position before `from` cleared. With `from` 2:
+//
+//     position   0 1 2 3 4 5 6 7     from the highest bit down
+//     byte       0 1 0 0 1 0 1 0     positions 1, 4 and 6 are set
+//     kept       0 0 1 1 1 1 1 1     position 2 and those after it
+//     rest       0 0 0 0 1 0 1 0     four zeros lead: the next set position is 4
+//
+// A rest with no set position is eight zeros, and the count is 8.
 pub fn next_bit(byte: u8, from: u8) -> u8
     ensures { λ r. ⌜ r ≡ nextBit byte from ⌝ }
 {
-    if byte == 0 {
+    if 8 <= from {
         return 8;
     }
-    let mut j = from;
-    while j < 8 {
-        if bit_at(byte, j) {
-            return j;
-        }
-        j += 1;
-    }
-    8
+    let kept: u8 = 0b1111_1111 >> from;
+    let rest = byte & kept;
+    u8::leading_zeros(rest) as u8
 }
 
 // Sets position p of a map. A position past the map's end changes nothing.

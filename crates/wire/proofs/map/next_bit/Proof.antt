@@ -1,62 +1,74 @@
--- `wire::map::next_bit` meets its contract: what is looked for from j on is what was looked for from `from` on.
+-- `wire::map::next_bit` meets its contract: the zeros that lead the rest of a byte are as many as its next set place says.
 use mathlib.Core.Path.{_≡_, refl, sym, ap, _∙_}
-use Prim.Native.Nat.{ℕ, _-_}
+use mathlib.Core.Bool.{Bool, true, false}
+use Prim.Native.Nat.{ℕ, zero, suc, _+_, _-_, _*_, _/_, _%_, _^_, _≤_, _<_}
+use native.Mathlib.Nat.{mod-lt, mod-one, pow-suc}
 use native.Mathlib.Omega.{arith}
+use lib.Bits.{bitAnd, and-mask}
+use lib.Count.{leadingZeros, leading-of-zero, leading-le, leading-unique, trailing-le}
+use lib.Pow.{pow-pos, mod-pow-add, ones-split, ones-lt, high}
+use mir.Syntax.{w8}
+use mir.Val.{Fits}
 use borrow.Author.Needs.{needs}
-use Rattle.wire.specs.Map.{nextBit}
-use Rattle.wire.proofs.MapLaws.{nextBit-hit, nextBit-pass, nextBit-end, nextBit-none}
+use borrow.Author.Tests.{eqb-true, eqb-false}
+use Rattle.wire.specs.Map.{bitAt, nextBit}
+use Rattle.wire.proofs.MapLaws.{nextBit-hit, nextBit-pass, nextBit-end}
 use Rattle.wire.proofs.map.next_bit.Statement.{statement}
 use Rattle.wire.proofs.map.next_bit.Tie as tie
 
-abbrev Inv-loop : tie.InvT-loop
-Inv-loop byte from j₀ j = nextBit byte j ≡ nextBit byte from
+-- The last k places of b, from place 8 - k on, are its remainder by 2 ^ k. Place j before them is the next set one, or it is passed over.
+module _ (b : ℕ) where
+  with-place : (k d : ℕ) → b / 2 ^ k % 2 ≡ d → b % 2 ^ suc k ≡ d * 2 ^ k + b % 2 ^ k
+  with-place k d e =
+      let s : 1 + k ≡ suc k = omega arith in
+      rw s at (mod-pow-add b 1 k) ∙ ap (λ (x : ℕ). x * 2 ^ k + b % 2 ^ k) e
 
-abbrev μ-loop : tie.MeasureT-loop
-μ-loop byte from j₀ j = 8 - j
+  zeros-before : (k j : ℕ) → j + suc k ≡ 8 → leadingZeros 8 (b % 2 ^ k) ≡ nextBit b (j + 1) → leadingZeros 8 (b % 2 ^ suc k) ≡ nextBit b j
+  unfolding bitAt
+  zeros-before k j e after = go (bitAt b j) refl
+    where
+      here : 7 - j ≡ k
+      here = omega arith
 
-returns : tie.Need-returns Inv-loop μ-loop
-returns c =
-    let a = c .before .args in
-    sym (ap (λ (b : ℕ). nextBit b (a .from)) (c .if1 .taken) ∙ nextBit-none (a .from))
+      go : (t : Bool) → bitAt b j ≡ t → leadingZeros 8 (b % 2 ^ suc k) ≡ nextBit b j
+      go true t =
+          let set = with-place k 1 (rw here at (eqb-true (b / 2 ^ (7 - j) % 2) 1 t)) in
+          sym (leading-unique 8 (b % 2 ^ suc k) j (suc k) e (mod-lt b (pow-pos (suc k))) (omega (arith, set, pow-suc 2 k)))
+          ∙ sym (nextBit-hit b j (omega arith) t)
+      go false t =
+          let clear : b / 2 ^ k % 2 ≡ 1 → ⊥ = rw here at (eqb-false (b / 2 ^ (7 - j) % 2) 1 t) in
+          let same : b % 2 ^ suc k ≡ b % 2 ^ k = omega (arith, with-place k 0 (omega arith)) in
+          ap (leadingZeros 8) same ∙ after ∙ sym (nextBit-pass b j (omega arith) t)
 
-loop-holds : tie.Need-loop-holds Inv-loop μ-loop
-loop-holds c = refl
+  zeros-next : (k j : ℕ) → j + k ≡ 8 → leadingZeros 8 (b % 2 ^ k) ≡ nextBit b j
+  zeros-next zero j e = ap (leadingZeros 8) (mod-one b) ∙ leading-of-zero 8 ∙ sym (nextBit-end b j (omega arith))
+  zeros-next (suc k) j e = zeros-before k j e (zeros-next k (j + 1) (omega arith))
 
-bit-at-requires : tie.Need-bit-at-requires Inv-loop μ-loop
-bit-at-requires c κs = search needs
+-- what the code keeps of a byte from place f on, and the zeros that lead it
+kept-from : (f : ℕ) → f < 8 → 255 / 2 ^ f ≡ 2 ^ (8 - f) - 1
+kept-from f h =
+    let e : 8 ≡ 8 - f + f = omega arith in
+    ap (λ (k : ℕ). (2 ^ k - 1) / 2 ^ f) e ∙ ap (λ (x : ℕ). x / 2 ^ f) (ones-split (8 - f) f) ∙ high (2 ^ (8 - f) - 1) f (ones-lt f)
 
-returns-2 : tie.Need-returns-2 Inv-loop μ-loop
-returns-2 c =
-    let l = c .before .before .before in
-    sym (nextBit-hit (l .before .before .args .byte) (l .loop .j) (omega arith) (sym (c .before .bit-at .ensures) ∙ c .if2 .taken)) ∙ l .loop .inv
+rest-next : (b f : ℕ) → f < 8 → leadingZeros 8 (bitAnd b (255 / 2 ^ f)) ≡ nextBit b f
+rest-next b f h =
+    ap (λ (x : ℕ). leadingZeros 8 (bitAnd b x)) (kept-from f h) ∙ ap (leadingZeros 8) (and-mask b (8 - f)) ∙ zeros-next b (8 - f) f (omega arith)
 
-add-j : tie.Need-add-j Inv-loop μ-loop
-add-j c = search needs
+count-fits : (n : ℕ) → n ≤ 8 → Fits w8 n
+count-fits n h = omega arith
 
-loop-less : tie.Need-loop-less Inv-loop μ-loop
-loop-less c = search needs
+returns : tie.Need-returns
+returns c = let a = c .before .args in sym (nextBit-end (a .byte) (a .from) (omega arith))
 
-loop-again : tie.Need-loop-again Inv-loop μ-loop
-loop-again c =
-    let l = c .before .before .before in
-    sym (nextBit-pass (l .before .before .args .byte) (l .loop .j) (omega arith) (sym (c .before .bit-at .ensures) ∙ c .if2 .left)) ∙ l .loop .inv
+shr-kept : tie.Need-shr-kept
+shr-kept c = search needs
 
-returns-3 : tie.Need-returns-3 Inv-loop μ-loop
-returns-3 c =
-    let l = c .before in
-    sym (nextBit-end (l .before .before .args .byte) (l .loop .j) (omega arith)) ∙ l .loop .inv
+-- zeros counted from either end of a byte fit; that they are the right ones is for the return to show
+cast-result : tie.Need-cast-result
+cast-result c = count-fits _ (search (leading-le, trailing-le))
+
+returns-2 : tie.Need-returns-2
+returns-2 c = let a = c .before .args in rest-next (a .byte) (a .from) (omega arith)
 
 pub next-bit-spec : {M : Type 1} → statement M
-next-bit-spec =
-    tie.close
-    (tie.spec
-    Inv-loop
-    μ-loop
-    returns
-    loop-holds
-    bit-at-requires
-    returns-2
-    add-j
-    loop-less
-    loop-again
-    returns-3)
+next-bit-spec = tie.close (tie.spec returns shr-kept cast-result returns-2)
