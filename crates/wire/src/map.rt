@@ -34,7 +34,7 @@ pub fn is_present(map: &[u8], p: usize) -> bool
 //     kept       0 0 1 1 1 1 1 1     position 2 and those after it
 //     rest       0 0 0 0 1 0 1 0     four zeros lead: the next set position is 4
 //
-// A rest with no set position is eight zeros, and the count is 8.
+// A rest with no set position is eight zeros, and the count is 8. From position 8 on a byte has no rest.
 pub fn next_bit(byte: u8, from: u8) -> u8
     ensures { λ r. ⌜ r ≡ nextBit byte from ⌝ }
 {
