@@ -3,8 +3,9 @@
 //! with the proved code and exists to be held against it.
 //!
 //! `reader`, `writer`, `session`, `plan` and `daysheet` follow the papers line
-//! by line and care for nothing but clearness. `plain` is a second decoder
-//! written for speed, only to be measured. `make` makes test input.
+//! by line and care for nothing but clearness. `plain` is a second decoder and
+//! writer, written for speed, only to be measured. `make` makes test input, and
+//! `reports` what is measured.
 
 #![forbid(unsafe_code)]
 
@@ -14,6 +15,7 @@ pub mod make;
 pub mod plain;
 pub mod plan;
 pub mod reader;
+pub mod reports;
 pub mod session;
 pub mod tables;
 pub mod wire;

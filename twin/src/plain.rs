@@ -1,9 +1,11 @@
-//! A second decoder and session, written for speed and only to be measured.
-//! Its answers are those of `reader` and `session`; its tables are typed anew.
+//! A second decoder, writer and session, written for speed and only to be
+//! measured. Its answers are those of `reader`, `writer` and `session`; its
+//! tables are typed anew.
 
-use crate::reader::Head;
+use crate::reader::{Head, Value};
 use crate::session::{Answer, Logon, Phase, Row, RowSort, Send, NOTHING, NO_ROW};
 use crate::wire::Refusal;
+use crate::writer::HeadValues;
 
 // ---- CRC32C, eight bytes at a time ----
 
@@ -92,32 +94,48 @@ enum Kind {
     Variable,
 }
 
+/// The sort of a value: a number, a Decimal, a text.
+const NUMBER: u8 = 1;
+const DECIMAL: u8 = 2;
+const TEXT: u8 = 3;
+
+/// The walk asks for the kind alone; the sort is for those who want the value.
 #[derive(Clone, Copy)]
 struct Shape {
     kind: Kind,
+    sort: u8,
     width: u16,
 }
 
 const fn any(width: u16) -> Shape {
     Shape {
         kind: Kind::Any,
+        sort: NUMBER,
         width,
     }
 }
 const fn fix(width: u16) -> Shape {
     Shape {
         kind: Kind::Fixed,
+        sort: TEXT,
         width,
     }
 }
 const fn var(width: u16) -> Shape {
     Shape {
         kind: Kind::Variable,
+        sort: TEXT,
         width,
     }
 }
+const DEC: Shape = Shape {
+    kind: Kind::Any,
+    sort: DECIMAL,
+    width: 8,
+};
 const GAP: Shape = Shape {
     kind: Kind::GapFill,
+    sort: NUMBER,
     width: 1,
 };
 
@@ -187,8 +205,8 @@ const LINES: [&[Line]; 11] = [
         (8, fix(21), false),  // Original Client Order ID
         (9, fix(21), true),   // Order ID
         (11, any(1), false),  // Order Type
-        (12, any(8), false),  // Price
-        (13, any(8), false),  // Order Quantity
+        (12, DEC, false),     // Price
+        (13, DEC, false),     // Order Quantity
         (14, any(1), false),  // Time In Force
         (15, any(1), false),  // Position Effect
         (16, fix(21), false), // Order Restrictions
@@ -199,14 +217,14 @@ const LINES: [&[Line]; 11] = [
         (21, fix(21), true),  // Execution ID
         (22, any(1), true),   // Order Status
         (23, any(1), true),   // Exec Type
-        (24, any(8), true),   // Cumulative Quantity
-        (25, any(8), true),   // Leaves Quantity
+        (24, DEC, true),      // Cumulative Quantity
+        (25, DEC, true),      // Leaves Quantity
         (27, any(1), false),  // Lot Type
         (28, any(2), false),  // Exec Restatement Reason
         (30, any(1), false),  // Match Type
         (31, fix(12), false), // Counterparty Broker ID
-        (32, any(8), false),  // Execution Quantity
-        (33, any(8), false),  // Execution Price
+        (32, DEC, false),     // Execution Quantity
+        (33, DEC, false),     // Execution Price
         (34, fix(21), false), // Reference Execution ID
         (35, any(1), false),  // Order Category
         (37, any(1), true),   // Copy Message Indicator
@@ -301,34 +319,63 @@ fn refused<T>(number: u32, besides: usize) -> Result<T, Refusal> {
     })
 }
 
-/// A read message: the header, how long the Comp ID is, the map's first word.
-struct Seen {
+/// Where the body begins: behind the header and the map's 32 bytes.
+const BODY: usize = 54;
+const TRAILER: usize = 4;
+
+/// A message that is right up to its map.
+struct Opened<'a> {
     head: Head,
     comp_id_end: usize,
+    layout: &'static Layout,
+    /// The map's first word.
     map: u64,
+    body: &'a [u8],
 }
 
-#[inline]
-fn walk(layout: &Layout, mut map: u64, body: &[u8]) -> Result<(), Refusal> {
-    let mut rest = body;
+/// A field as the walk meets it, by places in the body.
+struct Place {
+    kind: Kind,
+    /// Where the value begins.
+    at: usize,
+    /// The bytes of a number, the characters of a text.
+    length: usize,
+    /// Where the next field begins.
+    end: usize,
+}
+
+/// Walks the fields of `map` from `from` on, shows each to `note`, and gives
+/// where the walk ended. Refusal 9.
+#[inline(always)]
+fn walk(
+    layout: &Layout,
+    mut map: u64,
+    body: &[u8],
+    from: usize,
+    mut note: impl FnMut(Place),
+) -> Result<usize, Refusal> {
+    let mut rest = &body[from..];
     while map != 0 {
         let position = (map.leading_zeros() & 63) as usize;
         map ^= TOP >> position;
         let shape = layout.shapes[position];
         let width = usize::from(shape.width);
-        let used = match shape.kind {
-            Kind::Any => width,
+        let (before, length, used) = match shape.kind {
+            Kind::Any => (0, width, width),
             Kind::GapFill => {
                 if rest.is_empty() || (rest[0] != b'Y' && rest[0] != b'N') {
                     return refused(9, position);
                 }
-                1
+                (0, 1, 1)
             }
             Kind::Fixed => {
-                if rest.len() < width || text_end(&rest[..width]).is_none() {
+                if rest.len() < width {
                     return refused(9, position);
                 }
-                width
+                match text_end(&rest[..width]) {
+                    Some(end) => (0, end, width),
+                    None => return refused(9, position),
+                }
             }
             Kind::Variable => {
                 if rest.len() < 2 {
@@ -336,28 +383,63 @@ fn walk(layout: &Layout, mut map: u64, body: &[u8]) -> Result<(), Refusal> {
                 }
                 let length = usize::from(u16_at(rest, 0));
                 // A length of 0 holds no null and falls with the texts.
-                if length > width
-                    || rest.len() < 2 + length
-                    || text_end(&rest[2..2 + length]).is_none()
-                {
+                if length > width || rest.len() < 2 + length {
                     return refused(9, position);
                 }
-                2 + length
+                match text_end(&rest[2..2 + length]) {
+                    Some(end) => (2, end, 2 + length),
+                    None => return refused(9, position),
+                }
             }
         };
         if rest.len() < used {
             return refused(9, position);
         }
+        let start = body.len() - rest.len();
+        note(Place {
+            kind: shape.kind,
+            at: start + before,
+            length,
+            end: start + used,
+        });
         rest = &rest[used..];
     }
-    if !rest.is_empty() {
-        return refused(10, rest.len());
+    Ok(body.len() - rest.len())
+}
+
+/// Refusal 10: the walk must end where the body does.
+#[inline(always)]
+fn check_end(body: &[u8], end: usize) -> Result<(), Refusal> {
+    if end != body.len() {
+        return refused(10, body.len() - end);
     }
     Ok(())
 }
 
-#[inline]
-fn see(bytes: &[u8]) -> Result<Seen, Refusal> {
+/// Refusals 7 and 8, else the first word of the map's four.
+#[inline(always)]
+fn check_map(layout: &Layout, words: &[u8]) -> Result<u64, Refusal> {
+    let map = map_at(words, 0);
+    let unknown = map & !layout.known;
+    if unknown != 0 {
+        return refused(7, unknown.leading_zeros() as usize);
+    }
+    for word in 1..4 {
+        let map = map_at(words, 8 * word);
+        if map != 0 {
+            return refused(7, 64 * word + map.leading_zeros() as usize);
+        }
+    }
+    let missing = layout.required & !map;
+    if missing != 0 {
+        return refused(8, missing.leading_zeros() as usize);
+    }
+    Ok(map)
+}
+
+/// All of the reader's refusals before the walk.
+#[inline(always)]
+fn open(bytes: &[u8]) -> Result<Opened<'_>, Refusal> {
     if bytes.len() < 3 {
         if !bytes.is_empty() && bytes[0] != 2 {
             return refused(2, 0);
@@ -375,7 +457,7 @@ fn see(bytes: &[u8]) -> Result<Seen, Refusal> {
         return refused(1, length);
     }
     let message = &bytes[..length];
-    if crc32c(&message[..length - 4]) != u32_at(message, length - 4) {
+    if crc32c(&message[..length - TRAILER]) != u32_at(message, length - TRAILER) {
         return refused(4, length);
     }
     let head = Head {
@@ -393,32 +475,206 @@ fn see(bytes: &[u8]) -> Result<Seen, Refusal> {
     if head.number == 0 || head.poss_dup | head.poss_resend > 1 || comp_id_end == 0 {
         return refused(6, 0);
     }
-    let map = map_at(message, 22);
-    let unknown = map & !layout.known;
-    if unknown != 0 {
-        return refused(7, unknown.leading_zeros() as usize);
-    }
-    for word in 1..4 {
-        let map = map_at(message, 22 + 8 * word);
-        if map != 0 {
-            return refused(7, 64 * word + map.leading_zeros() as usize);
-        }
-    }
-    let missing = layout.required & !map;
-    if missing != 0 {
-        return refused(8, missing.leading_zeros() as usize);
-    }
-    walk(layout, map, &message[54..length - 4])?;
-    Ok(Seen {
+    Ok(Opened {
         head,
         comp_id_end,
-        map,
+        layout,
+        map: check_map(layout, &message[22..BODY])?,
+        body: &message[BODY..length - TRAILER],
     })
+}
+
+#[inline]
+fn see(bytes: &[u8]) -> Result<Opened<'_>, Refusal> {
+    let opened = open(bytes)?;
+    let end = walk(opened.layout, opened.map, opened.body, 0, |_| ())?;
+    check_end(opened.body, end)?;
+    Ok(opened)
 }
 
 /// Reads the message at the front: the answers of `reader::read`.
 pub fn read(bytes: &[u8]) -> Result<Head, Refusal> {
-    see(bytes).map(|seen| seen.head)
+    see(bytes).map(|opened| opened.head)
+}
+
+/// A number at the front of a field, which has 1, 2, 4 or 8 bytes.
+#[inline(always)]
+fn value_at(body: &[u8], at: usize, width: usize) -> u64 {
+    match width {
+        1 => u64::from(body[at]),
+        2 => u64::from(u16_at(body, at)),
+        4 => u64::from(u32_at(body, at)),
+        _ => u64_at(body, at),
+    }
+}
+
+/// The shape of the field at a position, and the body from it on: all of the
+/// reader's refusals, then 7 with the position asked, then 13.
+#[inline(always)]
+fn ask(bytes: &[u8], position: u32) -> Result<(Shape, &[u8]), Refusal> {
+    let Opened {
+        layout, map, body, ..
+    } = open(bytes)?;
+    // The walk halts at the position to see where it stands, then goes on. A
+    // position with no bit is before all others, and no layout knows it.
+    let bit = if position < 64 { TOP >> position } else { 0 };
+    let from_here = bit | bit.wrapping_sub(1);
+    let here = walk(layout, map & !from_here, body, 0, |_| ())?;
+    let end = walk(layout, map & from_here, body, here, |_| ())?;
+    check_end(body, end)?;
+    if layout.known & bit == 0 {
+        return refused(7, position as usize);
+    }
+    if map & bit == 0 {
+        return refused(13, 0);
+    }
+    Ok((layout.shapes[position as usize & 63], &body[here..]))
+}
+
+/// Asks a position for its number: the answers of `reader::ask_number`.
+pub fn ask_number(bytes: &[u8], position: u32) -> Result<Value, Refusal> {
+    let (shape, field) = ask(bytes, position)?;
+    let width = usize::from(shape.width);
+    match shape.sort {
+        NUMBER => Ok(Value::Number(value_at(field, 0, width))),
+        DECIMAL => Ok(Value::Decimal(u64_at(field, 0) as i64)),
+        _ => refused(14, 0),
+    }
+}
+
+/// Asks a position for its text: the answers of `reader::ask_text`.
+pub fn ask_text(bytes: &[u8], position: u32) -> Result<&[u8], Refusal> {
+    let (shape, field) = ask(bytes, position)?;
+    let text = match shape.kind {
+        Kind::Fixed => &field[..usize::from(shape.width)],
+        Kind::Variable => &field[2..2 + usize::from(u16_at(field, 0))],
+        _ => return refused(14, 0),
+    };
+    // The walk has found the null.
+    Ok(&text[..text_end(text).unwrap_or(0)])
+}
+
+// ---- Writer ----
+
+/// A Comp ID with zeros up to its width. Refusal 6.
+#[inline]
+fn padded(comp_id: &[u8]) -> Result<[u8; 12], Refusal> {
+    let mut padded = [0; 12];
+    if comp_id.is_empty() || comp_id.len() > 11 {
+        return refused(6, 0);
+    }
+    padded[..comp_id.len()].copy_from_slice(comp_id);
+    if text_end(&padded) != Some(comp_id.len()) {
+        return refused(6, 0);
+    }
+    Ok(padded)
+}
+
+/// What stands in a body behind a text's null: a fixed text gets zeros there, a
+/// variable one nothing.
+#[derive(Clone, Copy)]
+struct Tail {
+    variable: bool,
+    /// Where the text begins.
+    text: u16,
+    from: u16,
+    to: u16,
+}
+
+const NO_TAIL: Tail = Tail {
+    variable: false,
+    text: 0,
+    from: 0,
+    to: 0,
+};
+
+/// No type has more texts: the Execution Report has sixteen.
+const TEXTS: usize = 16;
+
+/// Writes a message in plain form at the front of `out` and gives its length:
+/// the answers and the bytes of `writer::write`.
+pub fn write(
+    head: &HeadValues,
+    comp_id: &[u8],
+    map: &[u8; 32],
+    body: &[u8],
+    out: &mut [u8],
+) -> Result<usize, Refusal> {
+    let layout = match LAYOUTS.get(usize::from(head.kind)) {
+        Some(layout) => layout,
+        None => return refused(5, 0),
+    };
+    if head.number == 0 || head.poss_dup | head.poss_resend > 1 {
+        return refused(6, 0);
+    }
+    let comp_id = padded(comp_id)?;
+    let word = check_map(layout, map)?;
+    let mut tails = [NO_TAIL; TEXTS];
+    let mut count = 0;
+    let mut left_out = 0;
+    let end = walk(layout, word, body, 0, |place| {
+        let from = place.at + place.length + 1;
+        if from < place.end {
+            let variable = place.kind == Kind::Variable;
+            tails[count] = Tail {
+                variable,
+                text: place.at as u16,
+                from: from as u16,
+                to: place.end as u16,
+            };
+            count += 1;
+            if variable {
+                left_out += place.end - from;
+            }
+        }
+    })?;
+    check_end(body, end)?;
+    let length = BODY + body.len() - left_out + TRAILER;
+    if length > 4096 {
+        return refused(12, 0);
+    }
+    if length > out.len() {
+        return refused(11, length);
+    }
+
+    let out = &mut out[..length];
+    out[0] = 2;
+    out[1..3].copy_from_slice(&(length as u16).to_le_bytes());
+    out[3] = head.kind;
+    out[4..8].copy_from_slice(&head.number.to_le_bytes());
+    out[8] = head.poss_dup;
+    out[9] = head.poss_resend;
+    out[10..22].copy_from_slice(&comp_id);
+    out[22..BODY].copy_from_slice(map);
+    lay_plain(body, &tails[..count], &mut out[BODY..length - TRAILER]);
+    let sum = crc32c(&out[..length - TRAILER]);
+    out[length - TRAILER..].copy_from_slice(&sum.to_le_bytes());
+    Ok(length)
+}
+
+/// Lays a good body down in plain form. What stands between two tails is copied
+/// at once.
+#[inline(always)]
+fn lay_plain(body: &[u8], tails: &[Tail], out: &mut [u8]) {
+    let mut done = 0;
+    let mut at = 0;
+    for tail in tails {
+        let (from, to) = (usize::from(tail.from), usize::from(tail.to));
+        let run = &body[done..from];
+        out[at..at + run.len()].copy_from_slice(run);
+        at += run.len();
+        if tail.variable {
+            // The two length bytes now count no more than text and null.
+            let length = tail.from - tail.text;
+            let before = at - usize::from(length) - 2;
+            out[before..before + 2].copy_from_slice(&length.to_le_bytes());
+        } else {
+            out[at..at + to - from].fill(0);
+            at += to - from;
+        }
+        done = to;
+    }
+    out[at..].copy_from_slice(&body[done..]);
 }
 
 // ---- Session ----
@@ -441,17 +697,9 @@ impl Session {
         if e == 0 || o == 0 {
             return refused(23, 0);
         }
-        let mut padded = [0; 12];
-        if comp_id.is_empty() || comp_id.len() > 11 {
-            return refused(6, 0);
-        }
-        padded[..comp_id.len()].copy_from_slice(comp_id);
-        if text_end(&padded) != Some(comp_id.len()) {
-            return refused(6, 0);
-        }
         Ok(Session {
             phase: Phase::Down,
-            comp_id: padded,
+            comp_id: padded(comp_id)?,
             comp_id_end: comp_id.len(),
             e,
             o,

@@ -1,9 +1,10 @@
 //! The proved library's C interface (include/featherloom.h) as Rust sees it:
-//! the header's structs, and a wrapper over slices for each call. All of the
-//! package's unsafe code stands here.
+//! the header's structs, and a wrapper over slices for each call. The unsafe
+//! code that the calls need stands here.
 
 use std::mem::size_of;
 use std::ptr;
+use twin::writer::HeadValues;
 
 #[repr(C)]
 #[derive(Clone, Copy, Debug, Default, PartialEq, Eq)]
@@ -46,6 +47,17 @@ pub struct Header {
     pub possdup: u8,
     pub possresend: u8,
     pub number: u32,
+}
+
+impl From<HeadValues> for Header {
+    fn from(head: HeadValues) -> Header {
+        Header {
+            kind: head.kind,
+            possdup: head.poss_dup,
+            possresend: head.poss_resend,
+            number: head.number,
+        }
+    }
 }
 
 #[repr(C)]

@@ -4,7 +4,7 @@ use crate::plan::plan;
 use crate::reader::{self, Value};
 use crate::session::{Answer, Phase, Row, RowSort, Send, Session, LAST, NOTHING, NO_ROW};
 use crate::tables::{self, Sort};
-use crate::wire::{is_set, refuse, set, Refusal, LEAST, MAP_WIDTH, MOST};
+use crate::wire::{self, is_set, refuse, set, Refusal, LEAST, MAP_WIDTH, MOST};
 use crate::writer::{self, HeadValues};
 use crate::{crc, plain};
 
@@ -1005,7 +1005,7 @@ fn session_live_in_turn() {
     }
 }
 
-// ---- Random input; plain against reader and session ----
+// ---- Random input; plain against reader, writer and session ----
 
 #[test]
 fn plain_sums_as_crc() {
@@ -1037,6 +1037,116 @@ fn plain_reads_as_reader() {
     assert!(seen.iter().all(|&count| count > 0), "{:?}", seen);
 }
 
+/// A good message of some type, in half of the cases spoiled.
+fn good_or_spoiled(rng: &mut Rng) -> Vec<u8> {
+    let kind = rng.below(11) as u8;
+    let number = rng.any_u32().max(1);
+    let comp_id = make::comp_id(rng);
+    let good = make::message(rng, kind, number, &comp_id);
+    if rng.chance(50) {
+        make::spoil(rng, &good)
+    } else {
+        good
+    }
+}
+
+#[test]
+fn plain_asks_as_reader() {
+    let mut rng = Rng::new(9);
+    let mut seen = [0u32; 15];
+    for _ in 0..1_500 {
+        let bytes = good_or_spoiled(&mut rng);
+        for position in (0..70).chain([255, 256, 4_096, u32::MAX]) {
+            let number = reader::ask_number(&bytes, position);
+            assert_eq!(plain::ask_number(&bytes, position), number, "{:?}", bytes);
+            let text = reader::ask_text(&bytes, position);
+            assert_eq!(plain::ask_text(&bytes, position), text, "{:?}", bytes);
+            // The same bytes of the caller, not only the same characters.
+            let begin = |text: &[u8]| text.as_ptr();
+            let same = plain::ask_text(&bytes, position).map(begin);
+            assert_eq!(same, text.map(begin));
+            seen[number.map_or_else(|r| r.number as usize, |_| 0)] += 1;
+        }
+    }
+    for refusal in (0..=10).chain(13..=14) {
+        assert!(seen[refusal] > 0, "{:?}", seen);
+    }
+}
+
+/// Spoils one thing of what a writer is given.
+fn spoil_parts(
+    rng: &mut Rng,
+    head: &mut HeadValues,
+    comp_id: &mut Vec<u8>,
+    map: &mut [u8; MAP_WIDTH],
+    body: &mut Vec<u8>,
+) {
+    match rng.below(10) {
+        0 => head.kind = rng.byte(),
+        1 => head.number = 0,
+        2 => head.poss_dup = rng.byte(),
+        3 => head.poss_resend = rng.byte(),
+        4 => {
+            *comp_id = [&b""[..], b"ABCDEFGHIJKL", b"A\0", b"\x1f", b"A\x7f"][rng.index(5)].to_vec()
+        }
+        5 => {
+            let width = if rng.chance(80) { 48 } else { 256 };
+            let position = rng.index(width);
+            map[position / 8] ^= 0x80 >> (position % 8);
+        }
+        6 => body.truncate(rng.index(body.len() + 1)),
+        7 => {
+            let more = 1 + rng.index(5_000);
+            body.extend(rng.bytes(more));
+        }
+        _ if body.is_empty() => body.push(0),
+        _ => {
+            let at = rng.index(body.len());
+            body[at] = rng.byte();
+        }
+    }
+}
+
+#[test]
+fn plain_writes_as_writer() {
+    let mut rng = Rng::new(11);
+    let mut seen = [0u32; 12];
+    for _ in 0..20_000 {
+        let mut head = HeadValues {
+            kind: rng.below(11) as u8,
+            number: rng.any_u32().max(1),
+            poss_dup: rng.below(2) as u8,
+            poss_resend: rng.below(2) as u8,
+        };
+        let mut comp_id = make::comp_id(&mut rng);
+        let (mut map, mut body) = make::map_and_body(&mut rng, head.kind, &[]);
+        if rng.chance(50) {
+            spoil_parts(&mut rng, &mut head, &mut comp_id, &mut map, &mut body);
+        }
+        let (mut slow, mut fast) = ([0xEE; MOST], [0xEE; MOST]);
+        let room = match writer::write(&head, &comp_id, &map, &body, &mut slow.clone()) {
+            Ok(length) => [length - 1, length, rng.index(length), MOST][rng.index(4)],
+            Err(_) => [0, MOST][rng.index(2)],
+        };
+        let answer = writer::write(&head, &comp_id, &map, &body, &mut slow[..room]);
+        assert_eq!(
+            plain::write(&head, &comp_id, &map, &body, &mut fast[..room]),
+            answer,
+            "{:?} {:?} {:?} {:?}",
+            head,
+            comp_id,
+            map,
+            body
+        );
+        assert_eq!(fast, slow, "{:?} {:?}", map, body);
+        assert!(answer.is_ok() || fast == [0xEE; MOST]);
+        seen[answer.map_or_else(|r| r.number as usize, |_| 0)] += 1;
+    }
+    for refusal in [0, 5, 6, 7, 8, 9, 10, 11] {
+        assert!(seen[refusal] > 0, "{:?}", seen);
+    }
+}
+
 #[test]
 fn random_bytes_never_panic() {
     let mut rng = Rng::new(6);
@@ -1065,7 +1175,11 @@ fn random_bytes_never_panic() {
             poss_dup: rng.below(3) as u8,
             poss_resend: 0,
         };
-        let _ = writer::write(&head, US, &map, &bytes, &mut [0; 300]);
+        let written = writer::write(&head, US, &map, &bytes, &mut [0; 300]);
+        assert_eq!(
+            plain::write(&head, US, &map, &bytes, &mut [0; 300]),
+            written
+        );
         daysheet(&bytes);
     }
 }

@@ -6,56 +6,19 @@
 mod proved;
 
 use std::time::Instant;
-use twin::make::{self, Given, Rng};
+use twin::plain;
+use twin::reader::{self, Value};
+use twin::reports::{self, Parts, Question, QUESTIONS, US};
 use twin::session::{self, RowSort};
-use twin::tables::EXECUTION_REPORTS;
-use twin::wire::{set, MAP_WIDTH, MOST};
-use twin::writer::{self, HeadValues};
-use twin::{crc, plain, reader};
+use twin::wire::MOST;
+use twin::{crc, writer};
 
 const ROUNDS: usize = 7;
-const US: &[u8] = b"RECORDER01";
 
 /// The sides in the order of the table's columns.
 const PROVED: usize = 0;
 const TWIN: usize = 1;
 const PLAIN: usize = 2;
-
-/// An execution report by one of the nine tables: all that it requires and
-/// some of the rest, 180 to 350 bytes.
-fn report(rng: &mut Rng, number: u32) -> Vec<u8> {
-    loop {
-        let table = EXECUTION_REPORTS[rng.index(EXECUTION_REPORTS.len())];
-        let mut map = [0; MAP_WIDTH];
-        let mut body = Vec::new();
-        for &(position, field, required) in table {
-            if required || rng.chance(30) {
-                set(&mut map, position);
-                body.extend(make::field(rng, field));
-            }
-        }
-        let given = Given {
-            kind: 10,
-            number,
-            poss_dup: 0,
-            poss_resend: 0,
-            comp_id: US,
-        };
-        let comp_id = make::fixed_text(rng, US, 12);
-        let bytes = make::frame(&given, &comp_id, &map, &body);
-        if (180..=350).contains(&bytes.len()) {
-            return bytes;
-        }
-    }
-}
-
-/// Another number for a message, the sum made right again.
-fn renumber(bytes: &mut [u8], number: u32) {
-    bytes[4..8].copy_from_slice(&number.to_le_bytes());
-    let at = bytes.len() - 4;
-    let sum = plain::crc32c(&bytes[..at]).to_le_bytes();
-    bytes[at..].copy_from_slice(&sum);
-}
 
 /// What one side took for one round: seconds, and a figure made from the
 /// answers, which all sides must agree on.
@@ -146,39 +109,10 @@ fn sums(messages: &[Vec<u8>], times: usize) -> Seconds {
 /// The parts of each message go in, the plain form comes out. Also the bytes
 /// that one round writes.
 fn write(messages: &[Vec<u8>], times: usize) -> (Seconds, u64) {
-    struct Given {
-        head: HeadValues,
-        header: proved::Header,
-        map: [u8; MAP_WIDTH],
-        body: Vec<u8>,
-    }
-    let all: Vec<Given> = messages
-        .iter()
-        .map(|bytes| {
-            let head = reader::read(bytes).expect("a good message");
-            let mut map = [0; MAP_WIDTH];
-            map.copy_from_slice(reader::map(bytes));
-            Given {
-                head: HeadValues {
-                    kind: head.kind,
-                    number: head.number,
-                    poss_dup: head.poss_dup,
-                    poss_resend: head.poss_resend,
-                },
-                header: proved::Header {
-                    kind: head.kind,
-                    possdup: head.poss_dup,
-                    possresend: head.poss_resend,
-                    number: head.number,
-                },
-                map,
-                body: reader::body(bytes).to_vec(),
-            }
-        })
-        .collect();
+    let all: Vec<Parts> = messages.iter().map(|bytes| reports::parts(bytes)).collect();
     let all = &all;
     // The last byte is the sum's, so it speaks for all the others.
-    let over = |write: fn(&Given, &mut [u8]) -> usize| {
+    let over = |write: fn(&Parts, &mut [u8]) -> usize| {
         move || {
             let mut figure = 0u64;
             let mut out = [0; MOST];
@@ -193,23 +127,56 @@ fn write(messages: &[Vec<u8>], times: usize) -> (Seconds, u64) {
             figure
         }
     };
-    let mut proved =
-        over(|given, out| proved::write(out, given.header, US, &given.map, &given.body).length);
+    let by_library = |given: &Parts, out: &mut [u8]| {
+        proved::write(out, given.head.into(), US, &given.map, &given.body).length
+    };
+    let mut proved = over(by_library);
     let mut twin = over(|given, out| {
         writer::write(&given.head, US, &given.map, &given.body, out).expect("a good message")
     });
-    let seconds = rounds([Some(&mut proved), Some(&mut twin), None]);
+    let mut plain = over(|given, out| {
+        plain::write(&given.head, US, &given.map, &given.body, out).expect("a good message")
+    });
+    let seconds = rounds([Some(&mut proved), Some(&mut twin), Some(&mut plain)]);
     let mut out = [0; MOST];
-    let bytes: usize = all
-        .iter()
-        .map(|given| proved::write(&mut out, given.header, US, &given.map, &given.body).length)
-        .sum();
+    let bytes: usize = all.iter().map(|given| by_library(given, &mut out)).sum();
     (seconds, (bytes * times) as u64)
 }
 
-/// The gateway's Logon, number 1, which expects our number 2.
-fn logon() -> Vec<u8> {
-    writer::logon(1, US, b"", 2).expect("a good Logon")
+/// Each message is asked the eight questions, one call each.
+fn questions(messages: &[Vec<u8>], times: usize) -> Seconds {
+    let over = |ask: fn(&[u8], Question) -> u64| {
+        move || {
+            let mut figure = 0u64;
+            for _ in 0..times {
+                for bytes in messages {
+                    for question in QUESTIONS {
+                        figure = figure.wrapping_mul(31).wrapping_add(ask(bytes, question));
+                    }
+                }
+            }
+            figure
+        }
+    };
+    // What is not there counts as 0.
+    let mut proved = over(|bytes, question| match question {
+        Question::Number(position) => {
+            let answer = proved::ask(bytes, position as usize);
+            answer.number.wrapping_add(answer.decimal as u64)
+        }
+        Question::Text(position) => proved::text(bytes, position as usize).length as u64,
+    });
+    let mut plain = over(|bytes, question| match question {
+        Question::Number(position) => match plain::ask_number(bytes, position) {
+            Ok(Value::Number(number)) => number,
+            Ok(Value::Decimal(decimal)) => decimal as u64,
+            Err(_) => 0,
+        },
+        Question::Text(position) => {
+            plain::ask_text(bytes, position).map_or(0, |text| text.len() as u64)
+        }
+    });
+    rounds([Some(&mut proved), None, Some(&mut plain)])
 }
 
 /// One Live session a side, and a day of reports with rising numbers. The day
@@ -219,7 +186,7 @@ fn step(reports: &[Vec<u8>], day: usize) -> (Seconds, u64) {
     let mut bytes_a_day = 0;
     for round in 0..ROUNDS {
         let mut chunk = reports.to_vec();
-        let logon = logon();
+        let logon = reports::logon();
         let mut a = proved::connect(proved::fresh(US).session, b"").session;
         a = proved::step(a, &logon).session;
         let mut b = session::Session::fresh(US).expect("a good Comp ID");
@@ -234,7 +201,7 @@ fn step(reports: &[Vec<u8>], day: usize) -> (Seconds, u64) {
         bytes_a_day = 0;
         for part in 0..day / reports.len() {
             for bytes in &mut chunk {
-                renumber(bytes, next);
+                reports::renumber(bytes, next);
                 next += 1;
                 bytes_a_day += bytes.len() as u64;
             }
@@ -280,14 +247,14 @@ fn tell(work: &str, messages: u64, bytes: u64, seconds: &Seconds) {
     for (side, name) in ["proved", "twin", "plain"].iter().enumerate() {
         let all = &seconds[side];
         if all.is_empty() {
-            println!("{:7} {:7} {:>12}", work, name, "-");
+            println!("{:9} {:7} {:>12}", work, name, "-");
             continue;
         }
         let middle = median(all);
         let least = all.iter().copied().fold(f64::INFINITY, f64::min);
         let most = all.iter().copied().fold(0.0, f64::max);
         println!(
-            "{:7} {:7} {:12.0} {:10.1} {:7.1} .. {:.1} %",
+            "{:9} {:7} {:12.0} {:10.1} {:7.1} .. {:.1} %",
             work,
             name,
             messages as f64 / middle,
@@ -300,7 +267,7 @@ fn tell(work: &str, messages: u64, bytes: u64, seconds: &Seconds) {
 
 /// How many times the library's speed is another side's.
 fn ratio(seconds: &Seconds, side: usize) -> String {
-    if seconds[side].is_empty() {
+    if seconds[side].is_empty() || seconds[PROVED].is_empty() {
         return String::from("-");
     }
     format!("{:.3}", median(&seconds[side]) / median(&seconds[PROVED]))
@@ -330,13 +297,10 @@ fn main() {
     }
     println!("bench: {}", machine());
 
-    let mut rng = Rng::new(1);
     let count: usize = if quick { 500 } else { 10_000 };
     let day: usize = if quick { 20_000 } else { 1_000_000 };
     let times = if quick { 10 } else { 20 };
-    let reports: Vec<Vec<u8>> = (0..count)
-        .map(|index| report(&mut rng, index as u32 + 1))
-        .collect();
+    let reports = reports::reports(count);
     let bytes: u64 = reports.iter().map(|bytes| bytes.len() as u64).sum();
     println!(
         "bench: {} execution reports of {} bytes on average, {} rounds, a day of {}",
@@ -348,30 +312,39 @@ fn main() {
 
     let read = read(&reports, times);
     let (step, bytes_a_day) = step(&reports, day);
+    // Eight calls a message, so fewer times.
+    let questions_times = times / 5;
+    let questions = questions(&reports, questions_times);
     let (write, bytes_written) = write(&reports, times);
     let sums = sums(&reports, times);
 
     println!();
-    println!("work    side      messages/s       MB/s  spread of 7 rounds");
+    println!("work      side      messages/s       MB/s  spread of 7 rounds");
     let (messages, all_bytes) = ((count * times) as u64, bytes * times as u64);
     tell("read", messages, all_bytes, &read);
     tell("step", day as u64, bytes_a_day, &step);
+    tell(
+        "questions",
+        (count * questions_times) as u64,
+        bytes * questions_times as u64,
+        &questions,
+    );
     tell("write", messages, bytes_written, &write);
     tell("crc32c", messages, all_bytes, &sums);
     println!();
-    println!("work    proved/plain  proved/twin   (speed; above 1: the library is faster)");
+    println!("work      proved/plain  proved/twin   (speed; above 1: the library is faster)");
     for (work, seconds) in [
         ("read", &read),
         ("step", &step),
+        ("questions", &questions),
         ("write", &write),
         ("crc32c", &sums),
     ] {
         println!(
-            "{:7} {:>12} {:>12}",
+            "{:9} {:>12} {:>12}",
             work,
             ratio(seconds, PLAIN),
             ratio(seconds, TWIN)
         );
     }
-    println!("the plain decoder has no writer");
 }

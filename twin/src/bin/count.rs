@@ -1,0 +1,212 @@
+//! Instructions a call of the proved library and of the plain hand-written
+//! decoder, on the same messages in one run. The answers of the two are held
+//! equal, call by call.
+
+#[allow(dead_code)] // shared with compare, which needs more
+#[path = "../proved.rs"]
+mod proved;
+#[path = "../steps.rs"]
+mod steps;
+
+use std::process::exit;
+use std::thread;
+use steps::counted;
+use twin::make::Rng;
+use twin::plain;
+use twin::reader::{Head, Value};
+use twin::reports::{self, Question, QUESTIONS, US};
+use twin::session::Send;
+use twin::wire::{Refusal, MOST};
+
+const REPORTS: usize = 100;
+
+/// What is summed of a Test Request, of a report, of the longest message, and
+/// far more.
+const SUMMED: [usize; 4] = [56, 274, 4_092, 65_536];
+
+/// Instructions of all the calls of one kind, by side.
+#[derive(Clone, Copy, Default)]
+struct Counts {
+    proved: u64,
+    plain: u64,
+}
+
+impl Counts {
+    /// Counts a call of each side and gives both answers.
+    fn add<A, B>(&mut self, proved: impl FnMut() -> A, plain: impl FnMut() -> B) -> (A, B) {
+        let (steps, a) = counted(proved);
+        self.proved += steps;
+        let (steps, b) = counted(plain);
+        self.plain += steps;
+        (a, b)
+    }
+}
+
+/// A good reading as the plain side gives it; all of these are good.
+fn head(reading: proved::Reading) -> Result<Head, Refusal> {
+    assert_eq!((reading.refusal, reading.besides), (0, 0));
+    Ok(Head {
+        kind: reading.kind,
+        number: reading.number,
+        poss_dup: reading.possdup,
+        poss_resend: reading.possresend,
+        length: reading.length,
+    })
+}
+
+fn read(reports: &[Vec<u8>]) -> Counts {
+    let mut counts = Counts::default();
+    for bytes in reports {
+        let (a, b) = counts.add(|| proved::read(bytes), || plain::read(bytes));
+        assert_eq!(head(a), b);
+    }
+    counts
+}
+
+/// A Live session a side, which takes the reports in turn.
+fn step(reports: &[Vec<u8>]) -> Counts {
+    let logon = reports::logon();
+    let mut a = proved::connect(proved::fresh(US).session, b"").session;
+    a = proved::step(a, &logon).session;
+    let mut b = plain::Session::fresh(US).expect("a good Comp ID");
+    b.connect(b"").expect("a fresh day connects");
+    b.step(&logon);
+
+    let mut counts = Counts::default();
+    for (bytes, number) in reports.iter().zip(2..) {
+        let mut bytes = bytes.clone();
+        reports::renumber(&mut bytes, number);
+        let (said, told) = counts.add(|| proved::step(a, &bytes), || b.step(&bytes));
+        a = said.session;
+        let business = (0, 1, number, number);
+        let row = said.row;
+        assert_eq!((said.refusal, row.kind, row.first, row.last), business);
+        assert_eq!((said.first.kind, said.second.kind), (0, 0));
+        let row = told.row;
+        assert_eq!((told.code, row.sort as u32, row.first, row.last), business);
+        assert_eq!(told.sends, [Send::None; 2]);
+        assert_eq!((a.expected, a.own, a.ahead), (b.e, b.o, b.m));
+    }
+    counts
+}
+
+fn value(answer: proved::Value) -> Result<Value, u32> {
+    match answer.sort {
+        proved::NUMBER => Ok(Value::Number(answer.number)),
+        proved::DECIMAL => Ok(Value::Decimal(answer.decimal)),
+        _ => Err(answer.refusal),
+    }
+}
+
+fn text(bytes: &[u8], part: proved::Part) -> Result<&[u8], u32> {
+    match part.refusal {
+        0 => Ok(&bytes[part.offset..part.offset + part.length]),
+        refusal => Err(refusal),
+    }
+}
+
+/// The eight questions of a report are one call here.
+fn questions(reports: &[Vec<u8>]) -> Counts {
+    let mut counts = Counts::default();
+    for bytes in reports {
+        for question in QUESTIONS {
+            match question {
+                Question::Number(position) => {
+                    let (a, b) = counts.add(
+                        || proved::ask(bytes, position as usize),
+                        || plain::ask_number(bytes, position),
+                    );
+                    assert_eq!(value(a), b.map_err(|refusal| refusal.number));
+                }
+                Question::Text(position) => {
+                    let (a, b) = counts.add(
+                        || proved::text(bytes, position as usize),
+                        || plain::ask_text(bytes, position),
+                    );
+                    assert_eq!(text(bytes, a), b.map_err(|refusal| refusal.number));
+                }
+            }
+        }
+    }
+    counts
+}
+
+fn write(reports: &[Vec<u8>]) -> Counts {
+    let mut counts = Counts::default();
+    for bytes in reports {
+        let given = reports::parts(bytes);
+        let (map, body) = (&given.map, &given.body[..]);
+        let header = proved::Header::from(given.head);
+        let (mut one, mut other) = ([0; MOST], [0; MOST]);
+        let (a, b) = counts.add(
+            || proved::write(&mut one, header, US, map, body),
+            || plain::write(&given.head, US, map, body, &mut other),
+        );
+        assert_eq!((a.refusal, Ok(a.length)), (0, b));
+        assert_eq!(one, other);
+    }
+    counts
+}
+
+fn sum(count: usize) -> Counts {
+    let bytes = Rng::new(2).bytes(count);
+    let mut counts = Counts::default();
+    let (a, b) = counts.add(|| proved::crc32c(&bytes), || plain::crc32c(&bytes));
+    assert_eq!(a, b);
+    counts
+}
+
+/// A line of the table: instructions a call, and the plain side's by the proved
+/// side's.
+fn tell(work: &str, counts: Counts, calls: usize) {
+    println!(
+        "{:13} {:>9.0} {:>9.0} {:>13.2}",
+        work,
+        counts.proved as f64 / calls as f64,
+        counts.plain as f64 / calls as f64,
+        counts.plain as f64 / counts.proved as f64,
+    );
+}
+
+fn count() {
+    let reports = reports::reports(REPORTS);
+    let bytes: usize = reports.iter().map(Vec::len).sum();
+    let set: u32 = reports
+        .iter()
+        .flat_map(|bytes| reports::parts(bytes).map)
+        .map(u8::count_ones)
+        .sum();
+    println!(
+        "count: instructions a call, {} execution reports of {} bytes and {:.1} fields on average, the plain side by {}",
+        REPORTS,
+        bytes / REPORTS,
+        f64::from(set) / REPORTS as f64,
+        env!("TWIN_RUSTC"),
+    );
+    println!();
+    println!("work             proved     plain  plain/proved");
+    tell("read", read(&reports), REPORTS);
+    tell("step", step(&reports), REPORTS);
+    tell("questions", questions(&reports), REPORTS);
+    tell("write", write(&reports), REPORTS);
+    for count in SUMMED {
+        tell(&format!("crc32c {}", count), sum(count), 1);
+    }
+}
+
+fn main() {
+    if std::env::args().len() > 1 {
+        eprintln!("count");
+        exit(2);
+    }
+    if !steps::start() {
+        eprintln!("count: no trap comes after each instruction here: nothing can be counted");
+        exit(1);
+    }
+    // The path that C's library takes through a copy depends on where in a page
+    // the bytes stand. The program's own stack begins elsewhere on each run, a
+    // thread's at the same place of a page: so each run counts the same.
+    if thread::spawn(count).join().is_err() {
+        exit(1);
+    }
+}
