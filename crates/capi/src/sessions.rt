@@ -9,7 +9,8 @@ use crate::shape::CWritten;
 use crate::write::written_shown;
 use crate::write::wrote;
 use message::frame::front_length;
-use message::vet::is_comp_id;
+use session::arrival::arrival_of;
+use session::arrival::is_in_turn;
 use session::day::Connected;
 use session::day::Made;
 use session::state::Row;
@@ -17,6 +18,7 @@ use session::state::Send;
 use session::state::Session;
 use session::state::State;
 use session::state::Stepped;
+use session::state::ahead_at;
 use wire::text::fixed_part;
 use writer::send::put_gap_fill;
 use writer::send::put_heartbeat_for;
@@ -24,6 +26,13 @@ use writer::send::put_logon;
 use writer::send::put_logout;
 use writer::send::put_resend_request;
 ghost use mathlib.Core.Path.{_≡_};
+ghost use Prim.Native.Nat.{_+_, _<_};
+ghost use Rattle.message.specs.Frame.{frontLength};
+ghost use Rattle.session.specs.declared.state.Row.the-variants.{Business};
+ghost use Rattle.session.specs.declared.state.Send.the-variants.{Nothing};
+ghost use Rattle.session.specs.Arrival.{arrivalOf};
+ghost use Rattle.session.specs.Day.{arrived};
+ghost use Rattle.session.specs.State.{take};
 ghost use Rattle.capi.specs.Sessions.{stateNumber, stateAt, shownSession, sessionIn, allZero, isPlainCompId, leastOwn, isAhead, isSession, made, shownMade, freshC, savedC, shownConnected, connectC, dropC, toSend, shownSend, shownRow, shownStepped, notStepped, usedBy, stepC, sendBy, sentBy, sendC, sentC, logonC, logonSentC};
 
 // No day has such a session.
@@ -95,7 +104,7 @@ fn is_plain_comp_id(ours: &[u8]) -> bool
     ensures { λ r. ⌜ r ≡ isPlainCompId (now (ours .entry)) ⌝ }
 {
     let text = fixed_part(ours, 12);
-    if !is_comp_id(text) {
+    if text.len() == 0 {
         return false;
     }
     if ours.len() < text.len() {
@@ -307,12 +316,57 @@ fn used_by(state: u32, s: &[u8]) -> usize
     front_length(s)
 }
 
+// Business in its turn: the answer, with nothing looked up.
+fn in_turn(c: CSession, used: usize) -> CStepped
+    requires { ⌜ (c .state ≡ 2) × (c .expected < 4294967295) ⌝ }
+    ensures { λ r. ⌜ r ≡ shownStepped used (take (sessionIn c) (c .expected + 1) (c .own) Nothing (Business (c .expected))) ⌝ }
+{
+    let e = c.expected;
+    let ours = c.ours;
+    CStepped {
+        refusal: 0,
+        session: CSession {
+            state: 2,
+            ours,
+            expected: e + 1,
+            own: c.own,
+            ahead: ahead_at(c.ahead, e + 1),
+        },
+        first: to_send(0, 0, 0, 0),
+        second: to_send(0, 0, 0, 0),
+        row: CRow {
+            kind: 1,
+            first: e,
+            last: e,
+        },
+        used,
+    }
+}
+
+// A Live session. Business in its turn, which most messages of a day are, is answered before the rules: they take it and do
+// nothing else, so this answer is the step's own. It stands here and not in `session`, since there every way out would meet in
+// one answer in memory.
+fn live_step(c: CSession, s: &[u8]) -> CStepped
+    requires { ⌜ c .state ≡ 2 ⌝ }
+    ensures { λ r. ⌜ r ≡ shownStepped (frontLength (now (s .entry))) (arrived (sessionIn c) (arrivalOf (c .ours) (now (s .entry)))) ⌝ }
+{
+    let ours = c.ours;
+    let arrival = arrival_of(&ours, s);
+    if is_in_turn(arrival, c.expected) {
+        return in_turn(c, front_length(s));
+    }
+    stepped_shown(session_in(c).arrived(arrival), front_length(s))
+}
+
 // One step on the message at the front of s.
 pub fn step_c(c: CSession, s: &[u8]) -> CStepped
     ensures { λ r. ⌜ r ≡ stepC c (now (s .entry)) ⌝ }
 {
     if !is_session(c) {
         return not_stepped(c);
+    }
+    if c.state == 2 {
+        return live_step(c, s);
     }
     stepped_shown(session_in(c).step(s), used_by(c.state, s))
 }

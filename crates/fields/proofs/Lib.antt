@@ -1,6 +1,7 @@
 pub mod CheckLaws
-pub mod LeftLaws
-pub mod MarkLaws
+pub mod CopyLaws
+pub mod CutLaws
+pub mod CutWorked
 pub mod PlainLaws
 pub mod PositionLaws
 pub mod SetsLaws
@@ -8,3 +9,5 @@ pub mod SpanLaws
 pub mod ValueLaws
 pub mod WalkLaws
 pub mod WidthLaws
+pub mod WordLaws
+pub mod QuickLaws

@@ -9,6 +9,7 @@ use borrow.Author.Tests.{lt-ltb, ltb-true, ltb-false}
 use lib.Dec.{ltb}
 use lib.ListN.{length, getD}
 use Rattle.tables.specs.declared.dictionary.Field.{Field}
+use Rattle.tables.specs.declared.table.Row.{Row}
 use Rattle.tables.specs.Line.{isRequired}
 use Rattle.tables.specs.Tables.{rowOf, spanOf}
 use Rattle.wire.specs.Map.{bitAt, present, nextBit}
@@ -69,12 +70,12 @@ module _ (test : ℕ → Bool) where
   place-none f = rw f
 
 -- a position that is clear, or known, is not unknown
-module _ (kind : ℕ) (m : List ℕ) where
-  unknown-clear : (p : ℕ) → present m p ≡ false → unknownAt kind m p ≡ false
+module _ (rows : ℕ → Row) (m : List ℕ) where
+  pub unknown-clear : (p : ℕ) → present m p ≡ false → unknownAt rows m p ≡ false
   unfolding unknownAt
   unknown-clear p h = rw h
 
-  unknown-known : (p : ℕ) → unknownTo kind p ≡ false → unknownAt kind m p ≡ false
+  pub unknown-known : (p : ℕ) → unknownTo rows p ≡ false → unknownAt rows m p ≡ false
   unfolding unknownAt
   unknown-known p h = rw h (go (present m p))
     where
@@ -82,43 +83,43 @@ module _ (kind : ℕ) (m : List ℕ) where
       go true = refl
       go false = refl
 
-  unknown-set : (p : ℕ) → present m p ≡ true → unknownTo kind p ≡ true → unknownAt kind m p ≡ true
+  unknown-set : (p : ℕ) → present m p ≡ true → unknownTo rows p ≡ true → unknownAt rows m p ≡ true
   unfolding unknownAt
   unknown-set p h e = rw (h, e)
 
   -- a loop over the bytes of a map, and in it one over the set places of a byte
-  pub unknown-enter : (i r : ℕ) → r ≡ nextBit (getD m i 0) 0 → NoneBelow (unknownAt kind m) (i * 8) → NoneBelow (unknownAt kind m) (i * 8 + r)
+  pub unknown-enter : (i r : ℕ) → r ≡ nextBit (getD m i 0) 0 → NoneBelow (unknownAt rows m) (i * 8) → NoneBelow (unknownAt rows m) (i * 8 + r)
   unknown-enter i r x h =
-      none-up-to (unknownAt kind m) (i * 8) (i * 8 + r) h (λ k l u. unknown-clear k (present-between m i 0 r x k (omega arith) u))
+      none-up-to (unknownAt rows m) (i * 8) (i * 8 + r) h (λ k l u. unknown-clear k (present-between m i 0 r x k (omega arith) u))
 
-  pub unknown-pass : (i j r : ℕ) → r ≡ nextBit (getD m i 0) (j + 1) → unknownTo kind (i * 8 + j) ≡ false
-      → NoneBelow (unknownAt kind m) (i * 8 + j) → NoneBelow (unknownAt kind m) (i * 8 + r)
+  pub unknown-pass : (i j r : ℕ) → r ≡ nextBit (getD m i 0) (j + 1) → unknownTo rows (i * 8 + j) ≡ false
+      → NoneBelow (unknownAt rows m) (i * 8 + j) → NoneBelow (unknownAt rows m) (i * 8 + r)
   unknown-pass i j r x e h =
-      none-up-to (unknownAt kind m) (i * 8 + j + 1) (i * 8 + r)
-      (none-below-next (unknownAt kind m) (i * 8 + j) h (unknown-known (i * 8 + j) e))
+      none-up-to (unknownAt rows m) (i * 8 + j + 1) (i * 8 + r)
+      (none-below-next (unknownAt rows m) (i * 8 + j) h (unknown-known (i * 8 + j) e))
       (λ k l u. unknown-clear k (present-between m i (j + 1) r x k (omega arith) u))
 
-  pub unknown-hit : (i j : ℕ) → i < 32 → j < 8 → bitAt (getD m i 0) j ≡ true → unknownTo kind (i * 8 + j) ≡ true
-      → NoneBelow (unknownAt kind m) (i * 8 + j) → At (i * 8 + j) ≡ lowestUnknown kind m
+  pub unknown-hit : (i j : ℕ) → i < 32 → j < 8 → bitAt (getD m i 0) j ≡ true → unknownTo rows (i * 8 + j) ≡ true
+      → NoneBelow (unknownAt rows m) (i * 8 + j) → At (i * 8 + j) ≡ lowestUnknown rows m
   unfolding lowestUnknown
   unknown-hit i j u l b e h =
       let v : i * 8 + j < 256 = omega arith in
-      place-at (unknownAt kind m) (i * 8 + j) v (first-at (unknownAt kind m) (i * 8 + j) v h (unknown-set (i * 8 + j) (present-at m i j l ∙ b) e))
+      place-at (unknownAt rows m) (i * 8 + j) v (first-at (unknownAt rows m) (i * 8 + j) v h (unknown-set (i * 8 + j) (present-at m i j l ∙ b) e))
 
-  pub unknown-leave : (i j : ℕ) → j ≡ 8 → NoneBelow (unknownAt kind m) (i * 8 + j) → NoneBelow (unknownAt kind m) ((i + 1) * 8)
+  pub unknown-leave : (i j : ℕ) → j ≡ 8 → NoneBelow (unknownAt rows m) (i * 8 + j) → NoneBelow (unknownAt rows m) ((i + 1) * 8)
   unknown-leave i j e h = let z : (i + 1) * 8 ≡ i * 8 + j = omega arith in rw z h
 
   -- all 256 positions are passed, or the map has ended
-  pub unknown-end : (i : ℕ) → 32 ≤ i → NoneBelow (unknownAt kind m) (i * 8) → Nowhere ≡ lowestUnknown kind m
+  pub unknown-end : (i : ℕ) → 32 ≤ i → NoneBelow (unknownAt rows m) (i * 8) → Nowhere ≡ lowestUnknown rows m
   unfolding lowestUnknown
   unknown-end i u h =
-      place-none (unknownAt kind m) (first-none (unknownAt kind m) (none-up-to (unknownAt kind m) (i * 8) 256 h (λ k l v. absurd (omega arith))))
+      place-none (unknownAt rows m) (first-none (unknownAt rows m) (none-up-to (unknownAt rows m) (i * 8) 256 h (λ k l v. absurd (omega arith))))
 
-  pub unknown-beyond : (i : ℕ) → length m ≤ i → NoneBelow (unknownAt kind m) (i * 8) → Nowhere ≡ lowestUnknown kind m
+  pub unknown-beyond : (i : ℕ) → length m ≤ i → NoneBelow (unknownAt rows m) (i * 8) → Nowhere ≡ lowestUnknown rows m
   unfolding lowestUnknown
   unknown-beyond i u h =
-      place-none (unknownAt kind m)
-      (first-none (unknownAt kind m) (none-up-to (unknownAt kind m) (i * 8) 256 h (λ k l v. unknown-clear k (present-beyond m i u k l))))
+      place-none (unknownAt rows m)
+      (first-none (unknownAt rows m) (none-up-to (unknownAt rows m) (i * 8) 256 h (λ k l v. unknown-clear k (present-beyond m i u k l))))
 
 -- a loop over the positions of a type's span, none at or past which passes
 module _ (test : ℕ → Bool) (kind : ℕ) (beyond : (k : ℕ) → spanOf kind ≤ k → test k ≡ false) where
@@ -129,42 +130,44 @@ module _ (test : ℕ → Bool) (kind : ℕ) (beyond : (k : ℕ) → spanOf kind 
   span-end p l h = first-none test (none-up-to test p 256 h (λ k u v. beyond k (omega arith)))
 
 -- the required positions
-module _ (kind : ℕ) (m : List ℕ) where
-  pub missing-optional : (p : ℕ) → isRequired (rowOf kind p) ≡ false → missingAt kind m p ≡ false
+module _ (rows : ℕ → Row) (m : List ℕ) where
+  pub missing-optional : (p : ℕ) → isRequired (rows p) ≡ false → missingAt rows m p ≡ false
   unfolding missingAt
   missing-optional p h = rw h
 
-  pub missing-required : (p : ℕ) → isRequired (rowOf kind p) ≡ true → missingAt kind m p ≡ not (present m p)
+  pub missing-required : (p : ℕ) → isRequired (rows p) ≡ true → missingAt rows m p ≡ not (present m p)
   unfolding missingAt
   missing-required p h = rw h
 
-  missing-beyond : (p : ℕ) → spanOf kind ≤ p → missingAt kind m p ≡ false
-  missing-beyond p h = missing-optional p (beyond-required kind p h)
+-- of a message type
+module _ (kind : ℕ) (m : List ℕ) where
+  missing-beyond : (p : ℕ) → spanOf kind ≤ p → missingAt (rowOf kind) m p ≡ false
+  missing-beyond p h = missing-optional (rowOf kind) m p (beyond-required kind p h)
 
-  pub missing-hit : (p : ℕ) → p < spanOf kind → missingAt kind m p ≡ true → NoneBelow (missingAt kind m) p → At p ≡ lowestMissing kind m
+  pub missing-hit : (p : ℕ) → p < spanOf kind → missingAt (rowOf kind) m p ≡ true → NoneBelow (missingAt (rowOf kind) m) p → At p ≡ lowestMissing (rowOf kind) m
   unfolding lowestMissing
   missing-hit p l e h =
-      place-at (missingAt kind m) p (omega (arith, span-within kind)) (span-hit (missingAt kind m) kind missing-beyond p l e h)
+      place-at (missingAt (rowOf kind) m) p (omega (arith, span-within kind)) (span-hit (missingAt (rowOf kind) m) kind missing-beyond p l e h)
 
-  pub missing-end : (p : ℕ) → spanOf kind ≤ p → NoneBelow (missingAt kind m) p → Nowhere ≡ lowestMissing kind m
+  pub missing-end : (p : ℕ) → spanOf kind ≤ p → NoneBelow (missingAt (rowOf kind) m) p → Nowhere ≡ lowestMissing (rowOf kind) m
   unfolding lowestMissing
-  missing-end p l h = place-none (missingAt kind m) (span-end (missingAt kind m) kind missing-beyond p l h)
+  missing-end p l h = place-none (missingAt (rowOf kind) m) (span-end (missingAt (rowOf kind) m) kind missing-beyond p l h)
 
 -- a field's position
 module _ (kind : ℕ) (f : Field) where
-  pub stands-beyond : (p : ℕ) → spanOf kind ≤ p → standsAt kind f p ≡ false
+  pub stands-beyond : (p : ℕ) → spanOf kind ≤ p → standsAt (rowOf kind) f p ≡ false
   unfolding standsAt isRowOf
   stands-beyond p h = beyond-none (isRowOf f) refl refl kind p h
 
-  pub position-hit : (p : ℕ) → p < spanOf kind → standsAt kind f p ≡ true → NoneBelow (standsAt kind f) p → p ≡ positionOf kind f
+  pub position-hit : (p : ℕ) → p < spanOf kind → standsAt (rowOf kind) f p ≡ true → NoneBelow (standsAt (rowOf kind) f) p → p ≡ positionOf (rowOf kind) f
   unfolding positionOf
-  position-hit p l e h = sym (span-hit (standsAt kind f) kind stands-beyond p l e h)
+  position-hit p l e h = sym (span-hit (standsAt (rowOf kind) f) kind stands-beyond p l e h)
 
-  pub position-end : (p : ℕ) → spanOf kind ≤ p → NoneBelow (standsAt kind f) p → 256 ≡ positionOf kind f
+  pub position-end : (p : ℕ) → spanOf kind ≤ p → NoneBelow (standsAt (rowOf kind) f) p → 256 ≡ positionOf (rowOf kind) f
   unfolding positionOf
-  position-end p l h = sym (span-end (standsAt kind f) kind stands-beyond p l h)
+  position-end p l h = sym (span-end (standsAt (rowOf kind) f) kind stands-beyond p l h)
 
   -- where the field has a position it stands there
-  pub position-stands : positionOf kind f < 256 → standsAt kind f (positionOf kind f) ≡ true
+  pub position-stands : positionOf (rowOf kind) f < 256 → standsAt (rowOf kind) f (positionOf (rowOf kind) f) ≡ true
   unfolding positionOf
-  position-stands l = first-found (standsAt kind f) 256 0 (omega arith)
+  position-stands l = first-found (standsAt (rowOf kind) f) 256 0 (omega arith)

@@ -7,7 +7,9 @@ use wire::text::Text;
 use wire::text::fixed_text;
 use wire::text::variable_text;
 ghost use mathlib.Core.Path.{_≡_};
-ghost use Rattle.fields.specs.Check.{whole, yesNo, fixed, variable, checkSort, checkRow, checkAt};
+ghost use Rattle.tables.specs.Tables.{rowOf};
+ghost use Rattle.fields.specs.Check.{whole, yesNo, fixed, variable, checkSort, checkRow};
+ghost use Rattle.fields.specs.Shapes.{Fits};
 
 // How many bytes a field takes, and how many its plain form takes; or that it overruns the bytes, is no text, or is
 // neither 'Y' nor 'N' where it must be.
@@ -84,10 +86,9 @@ pub fn check_sort(sort: Sort, s: &[u8]) -> Checked
     }
 }
 
-// The field that stands at position p in a message of this type, at the front of s. A position that the type does
-// not know holds no good field.
-pub fn check_at(kind: u8, p: usize, s: &[u8]) -> Checked
-    ensures { λ r. ⌜ r ≡ checkAt kind p (now (s .entry)) ⌝ }
+// The field that stands at position p in a message of this type, by its name and the dictionary.
+pub(crate) fn check_row(kind: u8, p: usize, s: &[u8]) -> Checked
+    ensures { λ r. ⌜ r ≡ checkRow (rowOf kind p) (now (s .entry)) ⌝ }
 {
     match row_of(kind, p) {
         Row::Required(field) => check_sort(sort_of(field), s),
@@ -95,4 +96,90 @@ pub fn check_at(kind: u8, p: usize, s: &[u8]) -> Checked
         Row::UnknownPosition => Checked::Bad,
         Row::UnknownType => Checked::Bad,
     }
+}
+
+// The same, each in a frame of its own: what is lent is then stored only where this way is taken.
+fn check_other(p: usize, s: &[u8]) -> Checked
+    ensures { λ r. ⌜ r ≡ checkRow (rowOf 10 p) (now (s .entry)) ⌝ }
+{
+    check_row(10, p, s)
+}
+
+fn check_named(kind: u8, p: usize, s: &[u8]) -> Checked
+    ensures { λ r. ⌜ r ≡ checkRow (rowOf kind p) (now (s .entry)) ⌝ }
+{
+    check_row(kind, p, s)
+}
+
+// What the check of a field needs to know where it is a number of so many bytes or a fixed text of so many.
+pub(crate) enum Shape {
+    Whole(usize),
+    Fixed(usize),
+    Other,
+}
+
+// The shape of each position of an Execution Report in one step, as most messages of a day are reports.
+pub(crate) fn report_shape(p: usize) -> Shape
+    ensures { λ r. ⌜ Fits r p ⌝ }
+{
+    match p {
+        0 => Shape::Fixed(21),
+        1 => Shape::Fixed(12),
+        2 => Shape::Fixed(21),
+        3 => Shape::Whole(1),
+        4 => Shape::Fixed(5),
+        5 => Shape::Fixed(11),
+        6 => Shape::Fixed(25),
+        7 => Shape::Whole(1),
+        8 => Shape::Fixed(21),
+        9 => Shape::Fixed(21),
+        11 => Shape::Whole(1),
+        12 => Shape::Whole(8),
+        13 => Shape::Whole(8),
+        14 => Shape::Whole(1),
+        15 => Shape::Whole(1),
+        16 => Shape::Fixed(21),
+        17 => Shape::Whole(1),
+        18 => Shape::Whole(1),
+        21 => Shape::Fixed(21),
+        22 => Shape::Whole(1),
+        23 => Shape::Whole(1),
+        24 => Shape::Whole(8),
+        25 => Shape::Whole(8),
+        27 => Shape::Whole(1),
+        28 => Shape::Whole(2),
+        30 => Shape::Whole(1),
+        31 => Shape::Fixed(12),
+        32 => Shape::Whole(8),
+        33 => Shape::Whole(8),
+        34 => Shape::Fixed(21),
+        35 => Shape::Whole(1),
+        37 => Shape::Whole(1),
+        38 => Shape::Fixed(25),
+        39 => Shape::Whole(1),
+        42 => Shape::Whole(1),
+        43 => Shape::Fixed(10),
+        _ => Shape::Other,
+    }
+}
+
+fn check_report(p: usize, s: &[u8]) -> Checked
+    ensures { λ r. ⌜ r ≡ checkRow (rowOf 10 p) (now (s .entry)) ⌝ }
+{
+    match report_shape(p) {
+        Shape::Whole(width) => check_whole(s, width),
+        Shape::Fixed(width) => check_fixed(s, width),
+        Shape::Other => check_other(p, s),
+    }
+}
+
+// The field that stands at position p in a message of this type, at the front of s. A position that the type does
+// not know holds no good field.
+pub fn check_at(kind: u8, p: usize, s: &[u8]) -> Checked
+    ensures { λ r. ⌜ r ≡ checkRow (rowOf kind p) (now (s .entry)) ⌝ }
+{
+    if kind == 10 {
+        return check_report(p, s);
+    }
+    check_named(kind, p, s)
 }

@@ -1,4 +1,8 @@
 // The known and the required set of a message type, against a map. Both follow from the tables.
+use crate::words::is_low;
+use crate::words::required_word;
+use crate::words::unknown_word;
+use crate::words::word_at;
 use tables::dictionary::Field;
 use tables::dictionary::row_number;
 use tables::table::Row;
@@ -8,6 +12,7 @@ use wire::map::is_present;
 use wire::map::next_bit;
 ghost use mathlib.Core.Path.{_≡_};
 ghost use Prim.Native.Nat.{_<_, _+_, _*_};
+ghost use Rattle.tables.specs.Tables.{rowOf};
 ghost use Rattle.fields.specs.Sets.{unknownTo, missingAt, lowestUnknown, lowestMissing, isRowOf, positionOf};
 
 // A position of a map, or none.
@@ -18,14 +23,14 @@ pub enum Place {
 
 // Whether the type does not know position p.
 fn is_unknown(kind: u8, p: usize) -> bool
-    ensures { λ r. ⌜ r ≡ unknownTo kind p ⌝ }
+    ensures { λ r. ⌜ r ≡ unknownTo (rowOf kind) p ⌝ }
 {
     !row_of(kind, p).is_known()
 }
 
 // Whether the type requires position p and the map has it clear.
 fn is_missing(kind: u8, map: &[u8], p: usize) -> bool
-    ensures { λ r. ⌜ r ≡ missingAt kind (now (map .entry)) p ⌝ }
+    ensures { λ r. ⌜ r ≡ missingAt (rowOf kind) (now (map .entry)) p ⌝ }
 {
     if !row_of(kind, p).is_required() {
         return false;
@@ -33,9 +38,9 @@ fn is_missing(kind: u8, map: &[u8], p: usize) -> bool
     !is_present(map, p)
 }
 
-// The lowest set position that the type does not know. Only set positions are looked up.
-pub fn lowest_unknown(kind: u8, map: &[u8]) -> Place
-    ensures { λ r. ⌜ r ≡ lowestUnknown kind (now (map .entry)) ⌝ }
+// The lowest set position that the type does not know, one by one. Only set positions are looked up.
+fn search_unknown(kind: u8, map: &[u8]) -> Place
+    ensures { λ r. ⌜ r ≡ lowestUnknown (rowOf kind) (now (map .entry)) ⌝ }
 {
     let mut i: usize = 0;
     while i < 32 && i < map.len() {
@@ -53,9 +58,22 @@ pub fn lowest_unknown(kind: u8, map: &[u8]) -> Place
     Place::Nowhere
 }
 
-// The lowest required position that the map has clear. No position past the type's span is required.
-pub fn lowest_missing(kind: u8, map: &[u8]) -> Place
-    ensures { λ r. ⌜ r ≡ lowestMissing kind (now (map .entry)) ⌝ }
+// The lowest set position that the type does not know. Most maps have none, which the quick tests show.
+pub fn lowest_unknown(kind: u8, map: &[u8]) -> Place
+    ensures { λ r. ⌜ r ≡ lowestUnknown (rowOf kind) (now (map .entry)) ⌝ }
+{
+    if !is_low(map) {
+        return search_unknown(kind, map);
+    }
+    if word_at(map, 0) & unknown_word(kind) != 0 {
+        return search_unknown(kind, map);
+    }
+    Place::Nowhere
+}
+
+// The lowest required position that the map has clear, one by one. No position past the type's span is required.
+fn search_missing(kind: u8, map: &[u8]) -> Place
+    ensures { λ r. ⌜ r ≡ lowestMissing (rowOf kind) (now (map .entry)) ⌝ }
 {
     let span = span_of(kind);
     let mut p: usize = 0;
@@ -64,6 +82,17 @@ pub fn lowest_missing(kind: u8, map: &[u8]) -> Place
             return Place::At(p);
         }
         p += 1;
+    }
+    Place::Nowhere
+}
+
+// The lowest required position that the map has clear. Most maps have none, which the quick test shows.
+pub fn lowest_missing(kind: u8, map: &[u8]) -> Place
+    ensures { λ r. ⌜ r ≡ lowestMissing (rowOf kind) (now (map .entry)) ⌝ }
+{
+    let required = required_word(kind);
+    if word_at(map, 0) & required != required {
+        return search_missing(kind, map);
     }
     Place::Nowhere
 }
@@ -81,7 +110,7 @@ fn is_row_of(field: Field, row: Row) -> bool
 
 // The field's position in a message of this type; 256, which no map has, where its tables do not name the field.
 pub fn position_of(kind: u8, field: Field) -> usize
-    ensures { λ r. ⌜ r ≡ positionOf kind field ⌝ }
+    ensures { λ r. ⌜ r ≡ positionOf (rowOf kind) field ⌝ }
 {
     let span = span_of(kind);
     let mut p = 0usize;

@@ -7,10 +7,10 @@ use crate::frame::comp_id_in;
 use crate::frame::header_in;
 use crate::frame::map_in;
 use crate::refusal::Refusal;
-use crate::vet::VettedMarking;
-use crate::vet::vet_marking;
+use crate::vet::Vetted;
+use crate::vet::vet_named;
 ghost use mathlib.Core.Path.{_≡_};
-ghost use Rattle.message.specs.Read.{readOf, readWhole, soughtBy, soughtOf, compIdOf, mapOf, bodyOf};
+ghost use Rattle.message.specs.Read.{readOf, readWhole, compIdOf, mapOf, bodyOf};
 
 // A good message's header values and length, or the refusal.
 pub enum Reading {
@@ -18,60 +18,26 @@ pub enum Reading {
     Refused(Refusal),
 }
 
-// A reading, and how many bytes of the body are left where the fields at two marked positions begin.
-pub enum Sought {
-    Good {
-        header: Header,
-        length: usize,
-        first: usize,
-        second: usize,
-    },
-    Refused(Refusal),
-}
-
-// A message whose frame is right: one walk.
-fn seek_whole(s: &[u8], length: usize, p: usize, q: usize) -> Sought
-    ensures { λ r. ⌜ r ≡ soughtBy (now (s .entry)) p q (readWhole (now (s .entry)) length) ⌝ }
+// A message whose frame is right: one walk. A Comp ID that is read is a text, and bad only where it is empty.
+fn read_whole(s: &[u8], length: usize) -> Reading
+    ensures { λ r. ⌜ r ≡ readWhole (now (s .entry)) length ⌝ }
 {
     let header = header_in(s);
-    match vet_marking(header, comp_id_in(s), map_in(s), body_in(s, length), p, q) {
-        VettedMarking::Good {
-            plain: _,
-            first,
-            second,
-        } => Sought::Good {
-            header,
-            length,
-            first,
-            second,
-        },
-        VettedMarking::Refused(refusal) => Sought::Refused(refusal),
+    let named = 1 <= comp_id_in(s).len();
+    match vet_named(header, named, map_in(s), body_in(s, length)) {
+        Vetted::Good(_) => Reading::Good { header, length },
+        Vetted::Refused(refusal) => Reading::Refused(refusal),
     }
 }
 
 // The message at the front of s, refused in the order 2, 1, 3, 1, 4, 5, 6, 7, 8, 9, 10: one pass for the checksum, and
-// one walk, which marks positions p and q.
-pub fn seek(s: &[u8], p: usize, q: usize) -> Sought
-    ensures { λ r. ⌜ r ≡ soughtOf (now (s .entry)) p q ⌝ }
-{
-    match check_frame(s) {
-        Framed::Whole(length) => seek_whole(s, length, p, q),
-        Framed::Refused(refusal) => Sought::Refused(refusal),
-    }
-}
-
-// The reading alone.
+// one walk.
 pub fn read(s: &[u8]) -> Reading
     ensures { λ r. ⌜ r ≡ readOf (now (s .entry)) ⌝ }
 {
-    match seek(s, 256, 256) {
-        Sought::Good {
-            header,
-            length,
-            first: _,
-            second: _,
-        } => Reading::Good { header, length },
-        Sought::Refused(refusal) => Reading::Refused(refusal),
+    match check_frame(s) {
+        Framed::Whole(length) => read_whole(s, length),
+        Framed::Refused(refusal) => Reading::Refused(refusal),
     }
 }
 

@@ -6,8 +6,10 @@
 // The capture is read from FILE, or from standard input. comp is our Comp ID, by default that of the first message whose
 // checksum is right; expected the number expected next at its first byte, by default 1; own the number of our Logon, by
 // default 1.
-use fields::check::Checked;
-use fields::check::check_at;
+use fields::cut::extent_at;
+use fields::cut::first_field;
+use fields::cut::next_field;
+use fields::cut::rest_at;
 use fields::value::Value;
 use fields::value::text_in;
 use fields::value::value_in;
@@ -33,13 +35,10 @@ use spelt::put_number;
 use tables::dictionary::Field;
 use tables::table::Row as Place;
 use tables::table::row_of;
-use tables::table::span_of;
 use wire::laying::put_bytes;
-use wire::map::is_present;
 use wire::text::fixed_part;
 use wire::text::put_fixed;
 ghost use Prim.Native.Nat.{_≤_};
-ghost use lib.ListN.{length};
 
 // What was asked for on the command line. A Comp ID of zeros: none was given.
 struct Asked {
@@ -156,35 +155,15 @@ fn say_place(out: &mut [u8], said: usize, kind: u8, map: &[u8], p: usize, rest: 
     }
 }
 
-// How many bytes the field at position p takes.
-fn taken_at(kind: u8, p: usize, rest: &[u8]) -> usize
-    ensures { λ r. ⌜ r ≤ length (now (rest .entry)) ⌝ }
-{
-    match check_at(kind, p, rest) {
-        Checked::Good { taken, plain: _ } => {
-            if taken <= rest.len() {
-                taken
-            } else {
-                rest.len()
-            }
-        }
-        Checked::Bad => rest.len(),
-    }
-}
-
 // The fields of a good message, a line each, in rising position.
 fn say_fields(out: &mut [u8], said: usize, kind: u8, map: &[u8], body: &[u8]) -> usize {
-    let span = span_of(kind);
-    let mut rest = body;
     let mut now = said;
-    let mut p: usize = 0;
-    while p < span {
-        if is_present(map, p) {
-            now = say_place(out, now, kind, map, p, rest);
-            let taken = taken_at(kind, p, rest);
-            rest = &rest[taken..];
-        }
-        p += 1;
+    let mut cursor = first_field(map);
+    while cursor.position < 256 {
+        let rest = rest_at(body, cursor);
+        now = say_place(out, now, kind, map, cursor.position, rest);
+        let taken = extent_at(kind, cursor.position, rest);
+        cursor = next_field(map, body, cursor, taken);
     }
     now
 }

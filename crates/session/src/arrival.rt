@@ -1,20 +1,23 @@
 // What one step finds at the front of its bytes: the reader's refusal, or what the rules need of a good message.
-use fields::sets::position_of;
+use crate::state::LAST;
 use fields::value::Value;
-use fields::value::last_of;
-use fields::value::value_in;
+use fields::value::value_of;
 use message::frame::body_in;
+use message::frame::comp_bytes_in;
 use message::frame::comp_id_in;
-use message::frame::header_in;
 use message::frame::map_in;
-use message::read::Sought;
-use message::read::seek;
+use message::read::Reading;
+use message::read::read;
 use tables::dictionary::Field;
+use wire::number::read_eight;
 use wire::text::fixed_part;
 ghost use mathlib.Core.Path.{_≡_};
+ghost use mathlib.Core.Bool.{true};
 ghost use Prim.Native.Nat.{_≤_};
-ghost use Rattle.session.specs.Arrival.{sameBytes, upTo, isYes, isOurs, arrivalOf};
-ghost use Rattle.session.specs.Marks.{firstMark, secondMark, resetBy, contentBy, contentIn};
+ghost use Rattle.wire.specs.Text.{fixedPart};
+ghost use Rattle.message.specs.Frame.{mapIn, bodyIn};
+ghost use Rattle.session.specs.Turn.{isBusiness, isDue, inTurn};
+ghost use Rattle.session.specs.Arrival.{sameBytes, upTo, isYes, sequenceReset, contentOf, isOurs, arrivalOf};
 
 // A message's type, with the numbers of its fields that the rules name.
 pub enum Content {
@@ -81,30 +84,6 @@ fn up_to(value: Value, most: u32) -> u32
     }
 }
 
-// The position of the first field of a type that the rules name; 256, which no map has, where they name none.
-fn first_mark(kind: u8) -> usize
-    ensures { λ r. ⌜ r ≡ firstMark kind ⌝ }
-{
-    match kind {
-        1 => position_of(kind, Field::TestRequestId),
-        2 => position_of(kind, Field::StartSequence),
-        4 => position_of(kind, Field::NewSequenceNumber),
-        5 => position_of(kind, Field::NextExpectedMessageSequence),
-        _ => 256,
-    }
-}
-
-// The position of the second.
-fn second_mark(kind: u8) -> usize
-    ensures { λ r. ⌜ r ≡ secondMark kind ⌝ }
-{
-    match kind {
-        2 => position_of(kind, Field::EndSequence),
-        4 => position_of(kind, Field::GapFill),
-        _ => 256,
-    }
-}
-
 // Whether Gap Fill is 'Y'.
 fn is_yes(value: Value) -> bool
     ensures { λ r. ⌜ r ≡ isYes value ⌝ }
@@ -119,27 +98,37 @@ fn is_yes(value: Value) -> bool
     }
 }
 
-fn sequence_reset(new: u32, fill: Value) -> Content
-    ensures { λ r. ⌜ r ≡ resetBy new fill ⌝ }
+// A Sequence Reset: a gap fill where Gap Fill is 'Y'.
+fn sequence_reset(map: &[u8], body: &[u8]) -> Content
+    ensures { λ r. ⌜ r ≡ sequenceReset (now (map .entry)) (now (body .entry)) ⌝ }
 {
-    if is_yes(fill) {
+    let new = up_to(value_of(4, map, body, Field::NewSequenceNumber), 4294967295);
+    if is_yes(value_of(4, map, body, Field::GapFill)) {
         Content::GapFill(new)
     } else {
         Content::Reset(new)
     }
 }
 
-// A message's content, given the values of the two fields that the rules name for its type.
-fn content_by(kind: u8, first: Value, second: Value) -> Content
-    ensures { λ r. ⌜ r ≡ contentBy kind first second ⌝ }
+// A message's content, with the numbers of the fields that the rules name. Where they name none, none is looked for.
+fn content_of(kind: u8, map: &[u8], body: &[u8]) -> Content
+    ensures { λ r. ⌜ r ≡ contentOf kind (now (map .entry)) (now (body .entry)) ⌝ }
 {
     match kind {
         0 => Content::Heartbeat,
-        1 => Content::TestRequest(up_to(first, 65535) as u16),
-        2 => Content::ResendRequest(up_to(first, 4294967295), up_to(second, 4294967295)),
+        1 => Content::TestRequest(
+            up_to(value_of(1, map, body, Field::TestRequestId), 65535) as u16,
+        ),
+        2 => Content::ResendRequest(
+            up_to(value_of(2, map, body, Field::StartSequence), 4294967295),
+            up_to(value_of(2, map, body, Field::EndSequence), 4294967295),
+        ),
         3 => Content::Reject,
-        4 => sequence_reset(up_to(first, 4294967295), second),
-        5 => Content::Logon(up_to(first, 4294967295)),
+        4 => sequence_reset(map, body),
+        5 => Content::Logon(up_to(
+            value_of(5, map, body, Field::NextExpectedMessageSequence),
+            4294967295,
+        )),
         6 => Content::Logout,
         7 => Content::Lookup,
         8 => Content::Lookup,
@@ -147,41 +136,108 @@ fn content_by(kind: u8, first: Value, second: Value) -> Content
     }
 }
 
-// The content of a message with this map and body, so many bytes of it being left where the two fields begin.
-fn content_in(kind: u8, map: &[u8], body: &[u8], first: usize, second: usize) -> Content
-    ensures { λ r. ⌜ r ≡ contentIn kind (now (map .entry)) (now (body .entry)) first second ⌝ }
+// The same of the message of this length at the front of s. Business, which most messages are, has no field that the rules
+// name, so map and body are not looked for.
+fn content_in(kind: u8, s: &[u8], length: usize) -> Content
+    ensures { λ r. ⌜ r ≡ contentOf kind (mapIn (now (s .entry))) (bodyIn length (now (s .entry))) ⌝ }
 {
-    content_by(
-        kind,
-        value_in(kind, map, first_mark(kind), last_of(body, first)),
-        value_in(kind, map, second_mark(kind), last_of(body, second)),
-    )
+    if 8 < kind {
+        return Content::Business;
+    }
+    content_of(kind, map_in(s), body_in(s, length))
+}
+
+// Whether two texts of twelve bytes are the same up to a null, which stands behind the first eight. Most Comp IDs that
+// are the same are found so by this quick test; where it says no, the texts are looked for and compared.
+fn is_same_start(a: &[u8], b: &[u8]) -> bool
+    ensures { λ r. ⌜ (r ≡ true → fixedPart 12 (now (a .entry)) ≡ fixedPart 12 (now (b .entry))) ⌝ }
+{
+    if a.len() < 12 {
+        return false;
+    }
+    if b.len() < 12 {
+        return false;
+    }
+    if read_eight(a) != read_eight(b) {
+        return false;
+    }
+    let mut i = 8;
+    while i < 12 {
+        if a[i] != b[i] {
+            return false;
+        }
+        if a[i] == 0 {
+            return true;
+        }
+        i += 1;
+    }
+    false
 }
 
 // Comp IDs are compared by their texts: what stands after a null does not count.
 fn is_ours(ours: &[u8; 12], s: &[u8]) -> bool
     ensures { λ r. ⌜ r ≡ isOurs (now (ours .entry)) (now (s .entry)) ⌝ }
 {
+    if is_same_start(ours, comp_bytes_in(s)) {
+        return true;
+    }
     is_same(fixed_part(ours, 12), comp_id_in(s))
 }
 
-// The message at the front of s: one checksum pass and one walk, which marks the fields that the rules name.
+// The message at the front of s: one checksum pass and one walk, and then the fields that the rules name.
 pub fn arrival_of(ours: &[u8; 12], s: &[u8]) -> Arrival
     ensures { λ r. ⌜ r ≡ arrivalOf (now (ours .entry)) (now (s .entry)) ⌝ }
 {
-    let kind = header_in(s).kind;
-    match seek(s, first_mark(kind), second_mark(kind)) {
-        Sought::Good {
-            header,
-            length,
-            first,
-            second,
-        } => Arrival::Good(Message {
+    match read(s) {
+        Reading::Good { header, length } => Arrival::Good(Message {
             number: header.number,
             possdup: header.possdup == 1,
             ours: is_ours(ours, s),
-            content: content_in(kind, map_in(s), body_in(s, length), first, second),
+            content: content_in(header.kind, s, length),
         }),
-        Sought::Refused(refusal) => Arrival::Refused(refusal.number()),
+        Reading::Refused(refusal) => Arrival::Refused(refusal.number()),
+    }
+}
+
+fn is_business(content: Content) -> bool
+    ensures { λ r. ⌜ r ≡ isBusiness content ⌝ }
+{
+    match content {
+        Content::Heartbeat => false,
+        Content::TestRequest(_) => false,
+        Content::ResendRequest(_, _) => false,
+        Content::Reject => false,
+        Content::Reset(_) => false,
+        Content::GapFill(_) => false,
+        Content::Logon(_) => false,
+        Content::Logout => false,
+        Content::Lookup => false,
+        Content::Business => true,
+    }
+}
+
+// Whether a message is business of ours with the number e that is expected, which is not the last.
+fn is_due(message: Message, e: u32) -> bool
+    ensures { λ r. ⌜ r ≡ isDue message e ⌝ }
+{
+    let content = message.content;
+    if !message.ours {
+        return false;
+    }
+    if message.number != e {
+        return false;
+    }
+    if e == LAST {
+        return false;
+    }
+    is_business(content)
+}
+
+pub fn is_in_turn(arrival: Arrival, e: u32) -> bool
+    ensures { λ r. ⌜ r ≡ inTurn arrival e ⌝ }
+{
+    match arrival {
+        Arrival::Refused(_) => false,
+        Arrival::Good(message) => is_due(message, e),
     }
 }

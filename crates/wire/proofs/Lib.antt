@@ -4,3 +4,6 @@ pub mod MapLaws
 pub mod NumberLaws
 pub mod SearchLaws
 pub mod TextLaws
+pub mod EightLaws
+pub mod MarkLaws
+pub mod StartLaws

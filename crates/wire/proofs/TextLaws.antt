@@ -10,7 +10,7 @@ use mathlib.Core.List.{List, [], _∷_, _++_, append-nil, append-assoc}
 use lib.Dec.{leb, ltb, eqb}
 use lib.ListN.{length, getD, set, take, drop, replicate, drop-of-length-le, length-append, length-drop, length-replicate}
 use lib.Seq.{set-at, append-snoc, drop-cons, take-all, take-suc, split-at, take-at, drop-at, take-take, take-add, drop-drop, length-take-le}
-use borrow.Author.Tests.{le-leb, lt-leb, lt-ltb, ne-eqb, leb-true, ltb-true}
+use borrow.Author.Tests.{le-leb, lt-leb, lt-ltb, ne-eqb, leb-true, ltb-true, eqb-true, eqb-false}
 use Rattle.wire.specs.declared.laying.Laid.{Laid}
 use Rattle.wire.specs.declared.laying.Laid.the-variants.{BadText}
 use Rattle.wire.specs.declared.text.Null.{Null}
@@ -20,7 +20,7 @@ use Rattle.wire.specs.declared.text.Text.the-variants.{Good, Bad}
 use Rattle.wire.specs.Laying.{laid, laidAnswer}
 use Rattle.wire.specs.Number.{number, numberBytes}
 use Rattle.wire.specs.Text.{isCharacter, allCharacters, onePast, null, ended, fixedText, variableBody, variableText, charactersOf, fixedPart, variablePart, takes, fixedBytes, variableBytes}
-use Rattle.wire.proofs.NumberLaws.{length-numberBytes, number-numberBytes}
+use Rattle.wire.proofs.NumberLaws.{Bytes, length-numberBytes, number-numberBytes, number-take}
 
 -- two tests that passed
 both : (p q : Bool) → cond p q false ≡ true → (p ≡ true) × (q ≡ true)
@@ -49,7 +49,7 @@ past-nowhere zero = refl
 past-nowhere (suc k) = ap onePast (past-nowhere k)
 
 -- what follows characters alone
-characters-then : (t r : List ℕ) → allCharacters t ≡ true → allCharacters (t ++ r) ≡ allCharacters r
+pub characters-then : (t r : List ℕ) → allCharacters t ≡ true → allCharacters (t ++ r) ≡ allCharacters r
 unfolding allCharacters
 characters-then [] r h = refl
 characters-then (b ∷ t) r h =
@@ -101,6 +101,16 @@ module _ (s : List ℕ) (i : ℕ) (h : allCharacters (take i s) ≡ true) where
     unfolding null
     null-missing =
         ap null (sym (append-nil s)) ∙ null-then s [] only-characters ∙ past-nowhere (length s)
+
+  -- the characters are counted: i is the whole length, or a byte that is none stands there
+  pub all-counted : i ≤ length s → (i < length s → isCharacter (getD s i 0) ≡ false) → eqb i (length s) ≡ allCharacters s
+  all-counted l o = go (eqb i (length s)) refl
+    where
+      go : (q : Bool) → eqb i (length s) ≡ q → q ≡ allCharacters s
+      go true e = sym (only-characters (omega (arith, eqb-true i (length s) e)))
+      go false e =
+          let m : i < length s = omega (arith, eqb-false i (length s) e) in
+          sym (other-character m (o m))
 
 -- a null that was found: only characters stand before it
 pub record NullAt (s : List ℕ) (n : ℕ) : Type 0 where
@@ -371,6 +381,37 @@ module _ (size : ℕ) (s : List ℕ) (n k : ℕ) (h : variableText size s ≡ Go
       let d : length (take n (drop 2 s)) ≡ n = length-take-le n (drop 2 s) c in
       takes-by-characters size (take n (drop 2 s)) (omega arith) l
       ∙ ap allCharacters (sym (take-take n m (drop 2 s) (omega arith))) ∙ null-found (take m (drop 2 s)) n (g .ends) .characters
+
+-- the characters of any text, also of a bad one, fit its field: they are no more than a fixed text's width, and with the null no more than
+-- two bytes count
+module _ (w : ℕ) (s : List ℕ) where
+  fixed-fits-by : (x : Text) → fixedText w s ≡ x → length (charactersOf x s) ≤ w
+  unfolding charactersOf
+  fixed-fits-by (Good n k) h =
+      let i = fixed-within w s n k h in
+      let e : k ≡ w = fixed-good w s n k h .extent in
+      let m : length (take n s) ≡ n = length-take-le n s (omega arith) in
+      omega arith
+  fixed-fits-by Bad h = omega arith
+
+  pub fixed-fits : length (fixedPart w s) ≤ w
+  unfolding fixedPart
+  fixed-fits = fixed-fits-by (fixedText w s) refl
+
+  variable-fits-by : Bytes s → (x : Text) → variableText w s ≡ x → length (charactersOf x (drop 2 s)) + 1 < 256 ^ 2
+  unfolding charactersOf
+  variable-fits-by b (Good n k) h =
+      let i = variable-within w s n k h in
+      let e : k ≡ 2 + number (take 2 s) = variable-good w s n k h .extent in
+      let f : number (take 2 s) < 256 ^ 2 = number-take s 2 b in
+      let l : n ≤ length (drop 2 s) = rw length-drop (omega arith) in
+      let m : length (take n (drop 2 s)) ≡ n = length-take-le n (drop 2 s) l in
+      omega arith
+  variable-fits-by b Bad h = omega arith
+
+  pub variable-fits : Bytes s → length (variablePart w s) + 1 < 256 ^ 2
+  unfolding variablePart
+  variable-fits b = variable-fits-by b (variableText w s) refl
 
 -- what each way of a text writer owes, whatever it lays; b is whether it takes the text
 pub text-refused : (bs d : List ℕ) (b : Bool) → b ≡ false → (BadText ≡ cond b (laidAnswer bs d) BadText) × (d ≡ cond b (laid bs d) d)

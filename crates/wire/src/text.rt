@@ -3,11 +3,16 @@
 use crate::laying::Laid;
 use crate::laying::lay;
 use crate::number::put_u16;
+use crate::number::read_eight;
 use crate::number::read_u16;
 ghost use mathlib.Core.Path.{_≡_};
-ghost use Prim.Native.Nat.{_≤_};
-ghost use lib.ListN.{length, replicate};
-ghost use Rattle.wire.specs.Text.{isCharacter, allCharacters, null, fixedText, variableText, fixedPart, variablePart, takes, putFixed, fixedLaid, putVariable, variableLaid};
+ghost use Prim.Native.Nat.{_≤_, _<_};
+ghost use lib.ListN.{length, take, getD, replicate};
+ghost use mathlib.Core.Bool.{true, false};
+ghost use Rattle.wire.specs.Number.{number};
+ghost use Rattle.wire.specs.Marks.{marks};
+ghost use Rattle.wire.specs.Laying.{laid, laidAnswer};
+ghost use Rattle.wire.specs.Text.{isCharacter, allCharacters, null, fixedText, variableText, fixedPart, variablePart, fixedBytes, variableBytes, takes, putFixed, fixedLaid, putVariable, variableLaid};
 
 // Where a text's null stands, if only characters stand before it.
 enum Null {
@@ -27,19 +32,46 @@ fn is_character(b: u8) -> bool
     32 <= b && b <= 126
 }
 
+// The top bit of each of the first eight bytes that is no character, and no other bit. With its top bit away, a byte from
+// 127 on carries into that bit when 1 is added to it, and one from 32 on when 96 is; no sum leaves its byte.
+fn outside(s: &[u8]) -> u64
+    requires { ⌜ 8 ≤ length (now s) ⌝ }
+    ensures { λ r. ⌜ r ≡ number (marks (take 8 (now (s .entry)))) ⌝ }
+{
+    let word = read_eight(s);
+    let low = word & 0x7F7F7F7F7F7F7F7F;
+    let above = (low + 0x0101010101010101) | word;
+    let least = (low + 0x6060606060606060) | word;
+    (above | (least ^ 0xFFFFFFFFFFFFFFFF)) & 0x8080808080808080
+}
+
+// How many characters stand at the front: eight bytes are looked at at once, and the lowest mark is the first that is none.
+fn characters_in(s: &[u8]) -> usize
+    ensures { λ r. ⌜ (r ≤ length (now (s .entry))) × (allCharacters (take r (now (s .entry))) ≡ true) × (r < length (now (s .entry)) → isCharacter (getD (now (s .entry)) r 0) ≡ false) ⌝ }
+{
+    let mut i = 0;
+    while 8 <= s.len() - i {
+        let marked = outside(&s[i..]);
+        if marked != 0 {
+            return i + (u64::trailing_zeros(marked) / 8) as usize;
+        }
+        i += 8;
+    }
+    while i < s.len() {
+        if !is_character(s[i]) {
+            return i;
+        }
+        i += 1;
+    }
+    i
+}
+
 fn null_in(s: &[u8]) -> Null
     ensures { λ r. ⌜ r ≡ null (now (s .entry)) ⌝ }
 {
-    let mut i = 0;
-    while i < s.len() {
-        let b = s[i];
-        if b == 0 {
-            return Null::At(i);
-        }
-        if !is_character(b) {
-            return Null::Nowhere;
-        }
-        i += 1;
+    let n = characters_in(s);
+    if n < s.len() && s[n] == 0 {
+        return Null::At(n);
     }
     Null::Nowhere
 }
@@ -116,14 +148,7 @@ pub fn variable_part(s: &[u8], size: usize) -> &[u8]
 fn all_characters(t: &[u8]) -> bool
     ensures { λ r. ⌜ r ≡ allCharacters (now (t .entry)) ⌝ }
 {
-    let mut i = 0;
-    while i < t.len() {
-        if !is_character(t[i]) {
-            return false;
-        }
-        i += 1;
-    }
-    true
+    characters_in(t) == t.len()
 }
 
 // Whether the text writer takes these characters at this width, null counted.
@@ -152,13 +177,11 @@ fn clear(d: &mut [u8])
     }
 }
 
-// A fixed text at the front of a lent buffer: its characters, and zeros to the width.
-pub fn put_fixed(d: &mut [u8], width: usize, t: &[u8]) -> Laid
-    ensures { λ r. ⌜ (r ≡ putFixed width (now (t .entry)) (now (d .entry))) × (now (d .exit) ≡ fixedLaid width (now (t .entry)) (now (d .entry))) ⌝ }
+// Characters and zeros to the width, at the front of a lent buffer.
+fn lay_fixed(d: &mut [u8], width: usize, t: &[u8]) -> Laid
+    requires { ⌜ length (now t) ≤ width ⌝ }
+    ensures { λ r. ⌜ (r ≡ laidAnswer (fixedBytes width (now (t .entry))) (now (d .entry))) × (now (d .exit) ≡ laid (fixedBytes width (now (t .entry))) (now (d .entry))) ⌝ }
 {
-    if !takes_text(width, t) {
-        return Laid::BadText;
-    }
     if d.len() < width {
         return Laid::NoRoom(width);
     }
@@ -168,13 +191,28 @@ pub fn put_fixed(d: &mut [u8], width: usize, t: &[u8]) -> Laid
     Laid::Wrote(width)
 }
 
-// A variable text at the front of a lent buffer: its length, the null counted, its characters and the null.
-pub fn put_variable(d: &mut [u8], size: usize, t: &[u8]) -> Laid
-    ensures { λ r. ⌜ (r ≡ putVariable size (now (t .entry)) (now (d .entry))) × (now (d .exit) ≡ variableLaid size (now (t .entry)) (now (d .entry))) ⌝ }
+// A fixed text at the front of a lent buffer: its characters, and zeros to the width.
+pub fn put_fixed(d: &mut [u8], width: usize, t: &[u8]) -> Laid
+    ensures { λ r. ⌜ (r ≡ putFixed width (now (t .entry)) (now (d .entry))) × (now (d .exit) ≡ fixedLaid width (now (t .entry)) (now (d .entry))) ⌝ }
 {
-    if !takes_text(size, t) {
+    if !takes_text(width, t) {
         return Laid::BadText;
     }
+    lay_fixed(d, width, t)
+}
+
+// The fixed text at the front of s laid down anew: its characters, and zeros to the width. A bad text has no characters.
+pub fn copy_fixed(d: &mut [u8], width: usize, s: &[u8]) -> Laid
+    ensures { λ r. ⌜ (r ≡ laidAnswer (fixedBytes width (fixedPart width (now (s .entry)))) (now (d .entry))) × (now (d .exit) ≡ laid (fixedBytes width (fixedPart width (now (s .entry)))) (now (d .entry))) ⌝ }
+{
+    lay_fixed(d, width, fixed_part(s, width))
+}
+
+// The length of the characters, the null counted, the characters and the null, at the front of a lent buffer.
+fn lay_variable(d: &mut [u8], t: &[u8]) -> Laid
+    requires { ⌜ length (now t) < 65535 ⌝ }
+    ensures { λ r. ⌜ (r ≡ laidAnswer (variableBytes (now (t .entry))) (now (d .entry))) × (now (d .exit) ≡ laid (variableBytes (now (t .entry))) (now (d .entry))) ⌝ }
+{
     let n = t.len();
     let end = n + 3;
     if d.len() < end {
@@ -184,4 +222,21 @@ pub fn put_variable(d: &mut [u8], size: usize, t: &[u8]) -> Laid
     lay(&mut d[2..], t);
     d[n + 2] = 0;
     Laid::Wrote(end)
+}
+
+// A variable text at the front of a lent buffer: its length, the null counted, its characters and the null.
+pub fn put_variable(d: &mut [u8], size: usize, t: &[u8]) -> Laid
+    ensures { λ r. ⌜ (r ≡ putVariable size (now (t .entry)) (now (d .entry))) × (now (d .exit) ≡ variableLaid size (now (t .entry)) (now (d .entry))) ⌝ }
+{
+    if !takes_text(size, t) {
+        return Laid::BadText;
+    }
+    lay_variable(d, t)
+}
+
+// The variable text at the front of s laid down anew. A bad text has no characters.
+pub fn copy_variable(d: &mut [u8], size: usize, s: &[u8]) -> Laid
+    ensures { λ r. ⌜ (r ≡ laidAnswer (variableBytes (variablePart size (now (s .entry)))) (now (d .entry))) × (now (d .exit) ≡ laid (variableBytes (variablePart size (now (s .entry)))) (now (d .entry))) ⌝ }
+{
+    lay_variable(d, variable_part(s, size))
 }

@@ -24,12 +24,14 @@ use Rattle.wire.proofs.NumberLaws.{length-numberBytes}
 use Rattle.wire.proofs.TextLaws.{fixed-again, taken, length-fixedBytes}
 use Rattle.fields.specs.declared.sets.Place.the-variants.{Nowhere}
 use Rattle.fields.specs.declared.walk.Walked.the-variants.{Done}
-use Rattle.fields.specs.declared.check.Checked.{Checked}
+use Rattle.tables.specs.declared.table.Row.{Row}
 use Rattle.fields.specs.declared.check.Checked.the-variants.{Good}
-use Rattle.fields.specs.Check.{checkAt, checkRow, checkSort, fixed, fixedTaken, whole, yesNo}
+use Rattle.fields.specs.Check.{checkRow, checkSort, fixed, fixedTaken, whole, yesNo}
 use Rattle.fields.specs.Sets.{positionOf, standsAt, isRowOf, lowest, placeOf, lowestUnknown, lowestMissing, unknownAt, unknownTo, missingAt}
-use Rattle.fields.specs.Walk.{walkOf, walkFrom, positions, onward}
+use Rattle.fields.specs.Cut.{positions, extent, extentOf, cutAt, cut}
+use Rattle.fields.specs.Walk.{onward, walkThrough, walkOf}
 use Rattle.fields.proofs.PositionLaws.{later-skip, later-end, positions-split}
+use Rattle.fields.proofs.WalkLaws.{walkFrom, walk-on}
 use Rattle.message.specs.declared.vet.Vetted.the-variants as vetted
 use Rattle.message.specs.Vet.{goodCompId, goodHeader, vetFields, vetUnknown, vetMissing, vetWalk, vet}
 use Rattle.writer.specs.declared.write.Written.the-variants.{Wrote}
@@ -67,14 +69,14 @@ pub record Complete (x : Outgoing) (b plain : ℕ) : Type 0 where
   pub possdup : x .head .possdup ≤ 1
   pub possresend : x .head .possresend ≤ 1
   pub map : x .map ≡ mapOf b
-  pub known : lowestUnknown (x .head .kind) (mapOf b) ≡ Nowhere
-  pub filled : lowestMissing (x .head .kind) (mapOf b) ≡ Nowhere
-  pub walked : walkFrom (checkAt (x .head .kind)) (positions (mapOf b) 8 0) 0 (x .body) ≡ Done 0 plain
+  pub known : lowestUnknown (rowOf (x .head .kind)) (mapOf b) ≡ Nowhere
+  pub filled : lowestMissing (rowOf (x .head .kind)) (mapOf b) ≡ Nowhere
+  pub walked : walkFrom (rowOf (x .head .kind)) (positions (mapOf b) 8 0) 0 (x .body) ≡ Done 0 plain
   pub short : plain ≤ 4038
 
 module _ {x : Outgoing} {b plain : ℕ} (c : Complete x b plain) where
-  complete-fields : vetFields (x .head .kind) (x .map) (x .body) ≡ vetted.Good plain
-  unfolding vetFields vetUnknown vetMissing vetWalk walkOf
+  complete-fields : vetFields (rowOf (x .head .kind)) (x .map) (x .body) ≡ vetted.Good plain
+  unfolding vetFields vetUnknown vetMissing vetWalk walkOf walkFrom cut
   complete-fields = rw (c .map, c .known, c .filled, first-byte b, c .walked)
 
   -- with a number, a good Comp ID and room it is written
@@ -95,32 +97,34 @@ module _ {x : Outgoing} {b plain : ℕ} (c : Complete x b plain) where
       )
 
 -- a body of two fields, of j and of k bytes
-walk-two : (f : ℕ → List ℕ → Checked) (p q j k : ℕ) (u v : List ℕ) → length u ≡ j → length v ≡ k → f p (u ++ v) ≡ Good j j → f q v ≡ Good k k
-    → walkFrom f (p ∷ q ∷ []) 0 (u ++ v) ≡ Done 0 (0 + j + k)
-unfolding walkFrom onward
-walk-two f p q j k u v l m a b = rw (a, drop-at u v j l, b, drop-of-length-le v {i = k} (omega arith))
+walk-two : (rows : ℕ → Row) (p q j k : ℕ) (u v : List ℕ) → length u ≡ j → length v ≡ k → checkRow (rows p) (u ++ v) ≡ Good j j
+    → checkRow (rows q) v ≡ Good k k → walkFrom rows (p ∷ q ∷ []) 0 (u ++ v) ≡ Done 0 (0 + j + k)
+unfolding walkFrom walkThrough cutAt
+walk-two rows p q j k u v l m a b =
+    walk-on rows p (q ∷ []) 0 j j (u ++ v) a ∙ ap (walkFrom rows (q ∷ []) (0 + j)) (drop-at u v j l) ∙ walk-on rows q [] (0 + j) k k v b
+    ∙ ap (walkFrom rows [] (0 + j + k)) (drop-of-length-le v {i = k} (omega arith))
 
 -- a Logon whose password the text writer takes
 module _ (number : ℕ) (password : List ℕ) (next : ℕ) where
-  logon-places : positions (mapOf 160) 8 0 ≡ positionOf 5 Password ∷ positionOf 5 NextExpectedMessageSequence ∷ []
+  logon-places : positions (mapOf 160) 8 0 ≡ positionOf (rowOf 5) Password ∷ positionOf (rowOf 5) NextExpectedMessageSequence ∷ []
   unfolding positions present bitAt positionOf standsAt isRowOf rowNumber firstFrom rowAt rowOf tablesOf unionAt table.logon
   logon-places = refl
 
-  logon-checks : (s : List ℕ) → (checkAt 5 (positionOf 5 Password) s ≡ fixed (widthOf (sortOf Password)) s)
-      × (checkAt 5 (positionOf 5 NextExpectedMessageSequence) (numberBytes 4 next) ≡ Good 4 4)
-  unfolding positionOf standsAt isRowOf rowNumber firstFrom rowAt rowOf tablesOf unionAt table.logon checkAt checkRow checkSort sortOf widthOf whole numberBytes
+  logon-checks : (s : List ℕ) → (checkRow (rowOf 5 (positionOf (rowOf 5) Password)) s ≡ fixed (widthOf (sortOf Password)) s)
+      × (checkRow (rowOf 5 (positionOf (rowOf 5) NextExpectedMessageSequence)) (numberBytes 4 next) ≡ Good 4 4)
+  unfolding positionOf standsAt isRowOf rowNumber firstFrom rowAt rowOf tablesOf unionAt table.logon checkRow checkSort sortOf widthOf whole numberBytes
   logon-checks s = (refl, refl)
 
   module _ (h : takes (widthOf (sortOf Password)) password ≡ true) where
-    logon-walk : walkFrom (checkAt 5) (positions (mapOf 160) 8 0) 0 (fixedBytes (widthOf (sortOf Password)) password ++ numberBytes 4 next)
+    logon-walk : walkFrom (rowOf 5) (positions (mapOf 160) 8 0) 0 (fixedBytes (widthOf (sortOf Password)) password ++ numberBytes 4 next)
         ≡ Done 0 (0 + widthOf (sortOf Password) + 4)
     unfolding fixed fixedTaken
     logon-walk =
         let w = widthOf (sortOf Password) in
         let u = fixedBytes w password in
         let v = numberBytes 4 next in
-        ap (λ (ps : List ℕ). walkFrom (checkAt 5) ps 0 (u ++ v)) logon-places
-        ∙ walk-two (checkAt 5) _ _ w 4 u v (length-fixedBytes w password (le-of-lt (taken w password h .room))) (length-numberBytes 4 next)
+        ap (λ (ps : List ℕ). walkFrom (rowOf 5) ps 0 (u ++ v)) logon-places
+        ∙ walk-two (rowOf 5) _ _ w 4 u v (length-fixedBytes w password (le-of-lt (taken w password h .room))) (length-numberBytes 4 next)
         (logon-checks (u ++ v) .0 ∙ ap fixedTaken (fixed-again w password v h)) (logon-checks v .1)
 
     pub logon-complete : Complete (logon number password next) 160 454
@@ -137,7 +141,7 @@ module _ (number : ℕ) where
       × Complete (testRequest number id) 128 2
       × Complete (resendRequest number start end) 192 8
       × Complete (gapFill number new) 192 5
-  unfolding mapWith withPosition withBit bitAt positionOf standsAt isRowOf rowNumber firstFrom rowAt rowOf tablesOf unionAt table.heartbeat table.testRequest table.resendRequest table.sequenceReset table.logout lowestUnknown lowestMissing lowest placeOf unknownAt unknownTo missingAt isKnown isRequired present walkFrom positions onward checkAt checkRow checkSort whole yesNo sortOf numberBytes
+  unfolding mapWith withPosition withBit bitAt positionOf standsAt isRowOf rowNumber firstFrom rowAt rowOf tablesOf unionAt table.heartbeat table.testRequest table.resendRequest table.sequenceReset table.logout lowestUnknown lowestMissing lowest placeOf unknownAt unknownTo missingAt isKnown isRequired present walkFrom walkThrough cutAt extentOf extent positions onward checkRow checkSort whole yesNo sortOf numberBytes
   computed id start end new = (
     record { kind = omega arith; possdup = omega arith; possresend = omega arith; map = refl; known = refl; filled = refl; walked = refl; short = omega arith },
     record { kind = omega arith; possdup = omega arith; possresend = omega arith; map = refl; known = refl; filled = refl; walked = refl; short = omega arith },
@@ -148,7 +152,7 @@ module _ (number : ℕ) where
   )
 
 -- the map of a Resend Request: C0 and zeros
-pub resend-request-map : mapWith 2 (StartSequence ∷ EndSequence ∷ []) ≡ 192 ∷ replicate 31 0
+pub resend-request-map : mapWith (rowOf 2) (StartSequence ∷ EndSequence ∷ []) ≡ 192 ∷ replicate 31 0
 resend-request-map = computed 0 0 0 0 0 .4 .map
 
 -- where our Comp ID is good, the number is not 0 and there is room, each is written

@@ -14,6 +14,8 @@ use Rattle.wire.specs.Number.{numberBytes}
 use Rattle.wire.specs.Text.{takes}
 use Rattle.wire.proofs.NumberLaws.{length-numberBytes}
 use Rattle.fields.specs.declared.walk.Walked.the-variants.{Done}
+use Rattle.tables.specs.Tables.{rowOf}
+use Rattle.fields.specs.Plain.{plainFields}
 use Rattle.fields.specs.Walk.{walkOf}
 use Rattle.fields.proofs.WalkLaws.{rest-of}
 use Rattle.message.specs.declared.frame.Header.{Header}
@@ -25,7 +27,7 @@ use Rattle.message.specs.Vet.{goodCompId, goodHeader, vet}
 use Rattle.message.proofs.VetLaws.{passed, GoodMessage, good-vetted}
 use Rattle.writer.specs.declared.write.Written.{Written}
 use Rattle.writer.specs.declared.write.Written.the-variants.{Wrote, Refused}
-use Rattle.writer.specs.Plain.{plainFields, headBytes, sealed, messageBytes, plainMessage}
+use Rattle.writer.specs.Plain.{headBytes, sealed, messageBytes, plainMessage}
 use Rattle.writer.specs.Write.{writeLength, writeVetted, writeOf, afterWriting, written}
 use Rattle.writer.proofs.BufferLaws.{lentFrom, laid-there, take-laid, Front, front-on, laid-over}
 use Rattle.writer.proofs.FieldsLaws.{fields-length}
@@ -108,14 +110,11 @@ module _ (h : Header) (compId m body d : List ℕ) where
     pub vetted-text : takes 12 compId ≡ true
     vetted-text = header-good h compId (vet-good .header) .text
 
-    pub vetted-length : length (plainFields (h .kind) m body) ≡ plain
-    vetted-length = fields-length (h .kind) m body 0 plain (vet-good .fields .walked)
-
-    pub vetted-walk : walkOf (h .kind) m body ≡ Done 0 (length (plainFields (h .kind) m body))
-    vetted-walk = vet-good .fields .walked ∙ ap (Done 0) (sym vetted-length)
+    pub vetted-length : length (plainFields (rowOf (h .kind)) m body) ≡ plain
+    vetted-length = fields-length (rowOf (h .kind)) m body 0 plain (vet-good .fields .walked)
 
     -- the rest x of a buffer from byte 54 on has room for the fields
-    pub vetted-room : (x : List ℕ) → 58 + plain ≤ length x → length (plainFields (h .kind) m body) ≤ length (take (length x - 54) (drop 54 x))
+    pub vetted-room : (x : List ℕ) → 58 + plain ≤ length x → length (plainFields (rowOf (h .kind)) m body) ≤ length (take (length x - 54) (drop 54 x))
     vetted-room x r = rw (rest-of x 54, length-drop) (omega (arith, vetted-length))
 
     by-length : writeOf h compId m body d ≡ writeLength (58 + plain) (length d)
@@ -149,7 +148,7 @@ module _ (h : Header) (compId m body d : List ℕ) where
       unfolding writeLength afterWriting plainMessage
       write-done l r x q =
           let n : length (plainMessage h compId m body) ≡ 58 + plain =
-          length-message h compId m (plainFields (h .kind) m body) vetted-text l ∙ ap (λ (k : ℕ). 58 + k) vetted-length in
+          length-message h compId m (plainFields (rowOf (h .kind)) m body) vetted-text l ∙ ap (λ (k : ℕ). 58 + k) vetted-length in
           answered (Wrote (58 + plain)) (rw (le-leb (58 + plain) 4096 short, le-leb (58 + plain) (length d) r)) x
           (q ∙ laid-there (plainMessage h compId m body) d (omega arith)
           ∙ ap (λ (k : ℕ). plainMessage h compId m body ++ drop k d) n)

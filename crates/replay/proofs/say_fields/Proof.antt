@@ -1,51 +1,59 @@
--- `replay::say_fields` is safe and ends: the output buffer keeps its length.
-use mathlib.Core.Path.{_≡_, ap}
-use mathlib.Core.Logic.{⊎-elim}
+-- `replay::say_fields` is safe and ends: the output buffer keeps its length, and the cursor's position rises to 256.
+use mathlib.Core.Path.{_≡_, sym, subst}
+use mathlib.Core.List.{List}
 use native.Mathlib.Omega.{arith}
-use Prim.Native.Nat.{_-_}
+use Prim.Native.Nat.{ℕ, _+_, _-_, _≤_, _<_}
 use lib.ListN.{length}
 use borrow.Author.Needs.{needs}
+use Rattle.fields.specs.declared.cut.Cursor.{Cursor}
+use Rattle.fields.specs.Cut.{nextSet, nextField}
+use Rattle.fields.proofs.CutLaws.{next-set}
 use Rattle.replay.proofs.say_fields.Statement.{statement}
 use Rattle.replay.proofs.say_fields.Tie as tie
 
+-- the next field stands at a later position
+rises : (m body : List ℕ) (n : ℕ) (c d : Cursor) → d ≡ nextField m body n c → c .position < 256 → c .position < d .position
+unfolding nextField
+rises m body n c d e h =
+    let u : c .position + 1 ≤ nextSet m (c .position + 1) = next-set m (c .position + 1) .from (omega arith) in
+    subst (λ (k : Cursor). c .position < k .position) (sym e) (omega arith)
+
 abbrev Inv-loop : tie.InvT-loop
-Inv-loop out₀ said kind map body span rest₀ now₀ p₀ out rest now p = length out ≡ length out₀
+Inv-loop out₀ said kind map body now₀ cursor₀ out now cursor = length out ≡ length out₀
 
 abbrev μ-loop : tie.MeasureT-loop
-μ-loop out₀ said kind map body span rest₀ now₀ p₀ out rest now p = span - p
+μ-loop out₀ said kind map body now₀ cursor₀ out now cursor = 256 - cursor .position
 
-span-of-requires : tie.Need-span-of-requires Inv-loop μ-loop
-span-of-requires c κs = search needs
+first-field-requires : tie.Need-first-field-requires Inv-loop μ-loop
+first-field-requires c κs = search needs
 
 loop-holds : tie.Need-loop-holds Inv-loop μ-loop
 loop-holds c = search needs
 
-is-present-requires : tie.Need-is-present-requires Inv-loop μ-loop
-is-present-requires c κs = search needs
+rest-at-requires : tie.Need-rest-at-requires Inv-loop μ-loop
+rest-at-requires c κs = search needs
 
 say-place-requires : tie.Need-say-place-requires Inv-loop μ-loop
 say-place-requires c κs = search needs
 
-taken-at-requires : tie.Need-taken-at-requires Inv-loop μ-loop
-taken-at-requires c κs = search needs
+extent-at-requires : tie.Need-extent-at-requires Inv-loop μ-loop
+extent-at-requires c κs = search needs
 
-sub-rest : tie.Need-sub-rest Inv-loop μ-loop
-sub-rest c = search needs
-
-part-rest-start : tie.Need-part-rest-start Inv-loop μ-loop
-part-rest-start c = search needs
-
-part-rest-end : tie.Need-part-rest-end Inv-loop μ-loop
-part-rest-end c = search needs
-
-add-p : tie.Need-add-p Inv-loop μ-loop
-add-p c = search needs
+next-field-requires : tie.Need-next-field-requires Inv-loop μ-loop
+next-field-requires c κs = search needs
 
 loop-less : tie.Need-loop-less Inv-loop μ-loop
-loop-less c = search needs
+loop-less c =
+    let t = c .before .before .before .before .before .before .before in
+    let k = t .before .before .loop .cursor in
+    let h : k .position < c .next-field .result .position = rises _ _ _ _ _ (c .next-field .ensures) (t .if1 .taken) in
+    omega arith
 
 loop-again : tie.Need-loop-again Inv-loop μ-loop
-loop-again c = ⊎-elim (λ w. omega (arith, ap length (w .7), w .2 .kept .0)) (λ w. omega (arith, ap length (w .1))) (c .if1 .came)
+loop-again c =
+    let s = c .before .before .before .before in
+    let l = s .before .before .before .before .before in
+    omega (arith, l .loop .inv, s .say-place .kept .0)
 
 same-length : tie.Need-same-length Inv-loop μ-loop
 same-length c = search needs
@@ -59,15 +67,12 @@ say-fields-spec =
     (tie.spec
     Inv-loop
     μ-loop
-    span-of-requires
+    first-field-requires
     loop-holds
-    is-present-requires
+    rest-at-requires
     say-place-requires
-    taken-at-requires
-    sub-rest
-    part-rest-start
-    part-rest-end
-    add-p
+    extent-at-requires
+    next-field-requires
     loop-less
     loop-again
     same-length

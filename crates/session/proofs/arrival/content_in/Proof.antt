@@ -1,57 +1,46 @@
--- `session::arrival::content_in` meets its contract.
-use Rattle.session.specs.Marks.{contentIn}
+-- `session::arrival::content_in` meets its contract: a type above 8 is business.
+use mathlib.Core.Path.{_≡_, refl, _∙_}
+use mathlib.Core.Bool.{false}
+use mathlib.Core.List.{List}
+use Prim.Native.Nat.{ℕ, _<_}
+use native.Mathlib.Omega.{arith}
+use borrow.Author.Tests.{ne-eqb}
+use lib.Dec.{eqb}
+use Rattle.session.specs.declared.arrival.Content.the-variants.{Business}
+use Rattle.session.specs.Arrival.{contentOf}
 use borrow.Author.Needs.{needs}
 use Rattle.session.proofs.arrival.content_in.Statement.{statement}
 use Rattle.session.proofs.arrival.content_in.Tie as tie
 
-first-mark-requires : tie.Need-first-mark-requires
-first-mark-requires c κs = search needs
-
-last-of-requires : tie.Need-last-of-requires
-last-of-requires c κs = search needs
-
-value-in-requires : tie.Need-value-in-requires
-value-in-requires c κs = search needs
-
-second-mark-requires : tie.Need-second-mark-requires
-second-mark-requires c κs = search needs
-
-last-of-requires-2 : tie.Need-last-of-requires-2
-last-of-requires-2 c κs = search needs
-
-value-in-requires-2 : tie.Need-value-in-requires-2
-value-in-requires-2 c κs = search needs
-
-content-by-requires : tie.Need-content-by-requires
-content-by-requires c κs = search needs
+above-eight : (kind : ℕ) (m body : List ℕ) → 8 < kind → Business ≡ contentOf kind m body
+unfolding contentOf
+above-eight kind m body h =
+    simp (not-one 0 (omega arith), not-one 1 (omega arith), not-one 2 (omega arith), not-one 3 (omega arith), not-one 4 (omega arith), not-one 5 (omega arith), not-one 6 (omega arith), not-one 7 (omega arith), not-one 8 (omega arith))
+  where
+    not-one : (n : ℕ) → n < 9 → eqb kind n ≡ false
+    not-one n l = ne-eqb kind n (λ e. omega arith)
 
 returns : tie.Need-returns
-unfolding contentIn
-returns c =
-    let v = c .before in
-    let l = v .before in
-    let m = l .before in
-    let w = m .before in
-    let k = w .before in
-    simp (
-      c .content-by .ensures,
-      v .value-in2 .ensures,
-      l .last-of2 .ensures,
-      m .second-mark .ensures,
-      w .value-in .ensures,
-      k .last-of .ensures,
-      k .before .first-mark .ensures,
-    )
+returns c = above-eight _ _ _ (omega arith)
+
+map-in-requires : tie.Need-map-in-requires
+map-in-requires c κs = search needs
+
+body-in-requires : tie.Need-body-in-requires
+body-in-requires c κs = search needs
+
+content-of-requires : tie.Need-content-of-requires
+content-of-requires c κs = search needs
+
+returns-2 : tie.Need-returns-2
+returns-2 c = simp (c .content-of .ensures, c .before .body-in .ensures, c .before .before .map-in .ensures)
 
 pub content-in-spec : {M : Type 1} → statement M
 content-in-spec =
     tie.close
     (tie.spec
-    first-mark-requires
-    last-of-requires
-    value-in-requires
-    second-mark-requires
-    last-of-requires-2
-    value-in-requires-2
-    content-by-requires
-    returns)
+    returns
+    map-in-requires
+    body-in-requires
+    content-of-requires
+    returns-2)

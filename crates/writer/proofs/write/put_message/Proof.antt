@@ -4,8 +4,10 @@ use Prim.Native.Nat.{ℕ, _+_}
 use native.Mathlib.Omega.{arith}
 use lib.ListN.{length}
 use borrow.Author.Needs.{needs}
-use Rattle.writer.specs.Plain.{plainFields, plainMessage}
-use Rattle.writer.proofs.WriteLaws.{vetted-text, vetted-length, vetted-walk, vetted-room, message-laid, write-long, write-full, write-done}
+use Rattle.tables.specs.Tables.{rowOf}
+use Rattle.fields.specs.Plain.{plainFields}
+use Rattle.writer.specs.Plain.{plainMessage}
+use Rattle.writer.proofs.WriteLaws.{vetted-text, vetted-length, vetted-room, message-laid, write-long, write-full, write-done}
 use Rattle.writer.proofs.write.put_message.Statement.{statement}
 use Rattle.writer.proofs.write.put_message.Tie as tie
 
@@ -43,7 +45,7 @@ put-fields-requires : tie.Need-put-fields-requires
 put-fields-requires c κs =
     let a = c .before .before .before .before .before .before .before .before .before .before .before in
     let x = c .before .before .before .put-head in
-    (vetted-walk (a .args .header) (a .args .comp .now) (a .args .map .now) (a .args .body .now) (a .args .d .now) (a .args .plain) (a .pre .1), vetted-room (a .args .header) (a .args .comp .now) (a .args .map .now) (a .args .body .now) (a .args .d .now) (a .args .plain) (a .pre .1) (x .last .0) (omega (arith, x .kept .0)))
+    vetted-room (a .args .header) (a .args .comp .now) (a .args .map .now) (a .args .body .now) (a .args .d .now) (a .args .plain) (a .pre .1) (x .last .0) (omega (arith, x .kept .0))
 
 put-sum-requires : tie.Need-put-sum-requires
 put-sum-requires c κs = search needs
@@ -57,7 +59,7 @@ returns-3 c =
     let a = c .before .before .before .before .before .before .before .before .before .before .before .before .before .before .before .before .before .before in
     let h = a .args .header in
     let m = a .args .map .now in
-    let p = plainFields (h .kind) m (a .args .body .now) in
+    let p = plainFields (rowOf (h .kind)) m (a .args .body .now) in
     let n = 58 + a .args .plain in
     let e : n ≡ 58 + length p = ap (λ (k : ℕ). 58 + k) (sym (vetted-length (a .args .header) (a .args .comp .now) (a .args .map .now) (a .args .body .now) (a .args .d .now) (a .args .plain) (a .pre .1))) in
     write-done (a .args .header) (a .args .comp .now) (a .args .map .now) (a .args .body .now) (a .args .d .now) (a .args .plain) (a .pre .1) (omega arith) (a .pre .0) (omega arith) _
