@@ -18,13 +18,15 @@ static const char PASSWORD[] = "encrypted elsewhere";
 
 static const uint8_t *bytes_of(const char *text) { return (const uint8_t *)text; }
 
-/* A Decimal as its count of hundred-millionths. */
 static void print_decimal(const char *label, const uint8_t *bytes, size_t count, size_t position) {
     featherloom_value value = featherloom_ask(bytes, count, position);
-    if (value.refusal == FEATHERLOOM_OK && value.sort == FEATHERLOOM_DECIMAL)
-        printf(" %s=%lld", label, (long long)value.decimal);
-    else
+    if (value.refusal == FEATHERLOOM_OK && value.sort == FEATHERLOOM_DECIMAL) {
+        uint8_t text[FEATHERLOOM_DECIMAL_TEXT_MOST];
+        featherloom_written written = featherloom_decimal_text(text, sizeof text, value.decimal);
+        printf(" %s=%.*s", label, (int)written.length, (const char *)text);
+    } else {
         printf(" %s refused=%u", label, value.refusal);
+    }
 }
 
 static void print_report(const uint8_t *bytes, size_t count) {

@@ -210,6 +210,15 @@ featherloom_written featherloom_write(uint8_t *buffer, size_t room, featherloom_
                                       size_t comp_id_count, const uint8_t map[32], const uint8_t *body,
                                       size_t body_count);
 
+/* Room for every Decimal's text: -92233720368.54775808 has 21 characters. */
+enum { FEATHERLOOM_DECIMAL_TEXT_MOST = 21 };
+
+/*
+ * Writes a Decimal, a count of hundred-millionths, as the shortest exact decimal text: 50000000 as 0.5, -100000000 as -1.
+ * Nothing stands after its last character, no null either. Refusal 11.
+ */
+featherloom_written featherloom_decimal_text(uint8_t *buffer, size_t room, int64_t decimal);
+
 /*
  * The session of one day. It is a value: give it to a call, keep the one that comes back. Every call checks it first, and
  * refuses with FEATHERLOOM_NOT_A_SESSION a session that no day has. One that some day has: the state is 0, 1 or 2; the Comp

@@ -167,6 +167,7 @@ extern "C" {
         body: *const u8,
         body_count: usize,
     ) -> Written;
+    fn featherloom_decimal_text(buffer: *mut u8, room: usize, decimal: i64) -> Written;
     fn featherloom_fresh(comp_id: *const u8, count: usize) -> Made;
     fn featherloom_saved(comp_id: *const u8, count: usize, expected: u32, own: u32) -> Made;
     fn featherloom_connect(session: Session, password: *const u8, count: usize) -> Connected;
@@ -251,6 +252,10 @@ pub fn write(
             body.len(),
         )
     }
+}
+
+pub fn decimal_text(buffer: &mut [u8], decimal: i64) -> Written {
+    unsafe { featherloom_decimal_text(buffer.as_mut_ptr(), buffer.len(), decimal) }
 }
 
 pub fn fresh(comp_id: &[u8]) -> Made {

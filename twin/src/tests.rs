@@ -98,6 +98,60 @@ fn figure_decimals() {
     }
 }
 
+/// The count that a text stands for. Refuses a text that has a shorter one.
+fn decimal_of(text: &str) -> i128 {
+    let (sign, size) = match text.strip_prefix('-') {
+        Some(size) => (-1, size),
+        None => (1, text),
+    };
+    let (before, after) = match size.split_once('.') {
+        Some((before, after)) => {
+            assert!(!after.is_empty() && !after.ends_with('0'), "{}", text);
+            (before, after)
+        }
+        None => (size, ""),
+    };
+    assert!(before == "0" || !before.starts_with('0'), "{}", text);
+    assert!(!before.is_empty() && after.len() <= 8, "{}", text);
+    let mut count = 0;
+    for digit in format!("{}{:0<8}", before, after).bytes() {
+        assert!(digit.is_ascii_digit(), "{}", text);
+        count = count * 10 + i128::from(digit - b'0');
+    }
+    assert!(sign == 1 || count != 0, "{}", text);
+    sign * count
+}
+
+#[test]
+fn decimals_as_text() {
+    for (decimal, text) in [
+        (0, "0"),
+        (1, "0.00000001"),
+        (-1, "-0.00000001"),
+        (50_000_000, "0.5"),
+        (-50_000_000, "-0.5"),
+        (99_999_999, "0.99999999"),
+        (100_000_000, "1"),
+        (-100_000_000, "-1"),
+        (100_000_001, "1.00000001"),
+        (1_010_000_000, "10.1"),
+        (1_000_003_100_012, "10000.03100012"),
+        (i64::MAX, "92233720368.54775807"),
+        (i64::MIN, "-92233720368.54775808"),
+    ] {
+        assert_eq!(wire::decimal_text(decimal), text);
+    }
+    let mut rng = Rng::new(21);
+    for _ in 0..100_000 {
+        // Texts of every length: high bits cleared, and zeros at the end.
+        let ten = 10_i64.pow(rng.below(18) as u32);
+        let decimal = (rng.draw() as i64 >> rng.below(64)) / ten * ten;
+        let text = wire::decimal_text(decimal);
+        assert_eq!(decimal_of(&text), i128::from(decimal));
+        assert!(text.len() <= 21, "{}", text);
+    }
+}
+
 #[test]
 fn figure_lengths() {
     let resend = writer::resend_request(1, US, 1, 0).unwrap();

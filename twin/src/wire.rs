@@ -90,6 +90,20 @@ pub fn is_comp_id(text: &[u8]) -> bool {
     !text.is_empty() && text.len() < COMP_ID_WIDTH && text.iter().all(|&byte| is_character(byte))
 }
 
+/// A Decimal, a count of hundred-millionths, as the shortest exact decimal
+/// text: the sign, the digits before the point without leading zeros, the point
+/// and the digits after it down to the last that is not 0. Where nothing stands
+/// after the point there is none.
+pub fn decimal_text(decimal: i64) -> String {
+    const WHOLE: u64 = 100_000_000;
+    let sign = if decimal < 0 { "-" } else { "" };
+    let size = decimal.unsigned_abs();
+    let eight = format!("{:08}", size % WHOLE);
+    let after = eight.trim_end_matches('0');
+    let point = if after.is_empty() { "" } else { "." };
+    format!("{}{}{}{}", sign, size / WHOLE, point, after)
+}
+
 /// One field found in a body: where it stands, and for a text its characters.
 #[derive(Clone, Copy, Debug)]
 pub struct Found<'a> {

@@ -13,11 +13,13 @@ use capi::shape::CWritten;
 ghost use mathlib.Core.Path.{_≡_};
 ghost use Rattle.crc.specs.Crc.{crc32c};
 ghost use Rattle.plan.specs.Plan.{planOf, planned};
+ghost use Rattle.spelt.specs.Spelt.{amountText};
+ghost use Rattle.wire.specs.Laying.{laid, laidAnswer};
 ghost use Rattle.writer.specs.Write.{writeOf, written};
 ghost use Rattle.capi.specs.Planning.{shownPlanned};
 ghost use Rattle.capi.specs.Reading.{readC, compIdC, mapC, bodyC, askC, textC};
 ghost use Rattle.capi.specs.Sessions.{freshC, savedC, connectC, dropC, stepC, sendC, sentC, logonC, logonSentC};
-ghost use Rattle.capi.specs.Writing.{shownWritten, headerOf};
+ghost use Rattle.capi.specs.Writing.{shownWritten, shownLaid, headerOf};
 
 #[no_mangle]
 pub extern "C" fn featherloom_read(bytes: &[u8]) -> CReading
@@ -79,6 +81,13 @@ pub extern "C" fn featherloom_write(
     ensures { λ r. ⌜ (r ≡ shownWritten (writeOf (headerOf header) (now (comp .entry)) (now (map .entry)) (now (body .entry)) (now (buffer .entry)))) × (now (buffer .exit) ≡ written (headerOf header) (now (comp .entry)) (now (map .entry)) (now (body .entry)) (now (buffer .entry))) ⌝ }
 {
     capi::write::write_c(buffer, header, comp, map, body)
+}
+
+#[no_mangle]
+pub extern "C" fn featherloom_decimal_text(buffer: &mut [u8], decimal: i64) -> CWritten
+    ensures { λ r. ⌜ (r ≡ shownLaid (laidAnswer (amountText decimal) (now (buffer .entry)))) × (now (buffer .exit) ≡ laid (amountText decimal) (now (buffer .entry))) ⌝ }
+{
+    capi::write::decimal_text_c(buffer, decimal)
 }
 
 #[no_mangle]

@@ -28,15 +28,16 @@ const ENOUGH: u32 = 10;
 // ---- Counting ----
 
 /// The categories, with their parts of a hundred of the random comparisons.
-const CATEGORIES: [(&str, u64); 9] = [
+const CATEGORIES: [(&str, u64); 10] = [
     ("short inputs", 8),
-    ("valid messages", 32),
+    ("valid messages", 31),
     ("writes, good and bad", 8),
     ("damage", 12),
     ("histories", 22),
     ("sessions that no day has", 12),
     ("plan", 5),
     ("crc32c", 1),
+    ("decimals as text", 1),
     ("daysheet", 0),
 ];
 
@@ -1199,6 +1200,53 @@ fn sums(tally: &mut Tally, rng: &mut Rng, until: u64) {
     }
 }
 
+// ---- Decimals as text ----
+
+/// Rooms below the shortest text and above the longest, which has 21 bytes.
+const TEXT_ROOMS: usize = 26;
+
+fn decimals(tally: &mut Tally, rng: &mut Rng, until: u64) {
+    // Where a digit is added, before the point or after it, on both sides of 0.
+    let mut edges = vec![0, i64::MIN, i64::MIN + 1, i64::MAX - 1, i64::MAX];
+    for places in 0..=18 {
+        let ten = 10_i64.pow(places);
+        for edge in [ten - 1, ten, ten + 1, 5 * (ten / 10)] {
+            edges.extend([edge, -edge]);
+        }
+    }
+    for decimal in edges {
+        for room in 0..TEXT_ROOMS {
+            hold_decimal(tally, decimal, room);
+        }
+    }
+    while tally.count() < until {
+        // Texts of every length: high bits cleared, and zeros at the end.
+        let ten = 10_i64.pow(rng.below(18) as u32);
+        let decimal = match rng.below(3) {
+            0 => rng.draw() as i64,
+            1 => rng.draw() as i64 >> rng.below(64),
+            _ => (rng.draw() as i64 >> rng.below(64)) / ten * ten,
+        };
+        let length = wire::decimal_text(decimal).len();
+        let room = match rng.below(4) {
+            0 => length,
+            1 => length - 1,
+            _ => rng.index(TEXT_ROOMS),
+        };
+        hold_decimal(tally, decimal, room);
+    }
+}
+
+fn hold_decimal(tally: &mut Tally, decimal: i64, room: usize) {
+    hold_written(
+        tally,
+        room,
+        |out| lay(Ok(wire::decimal_text(decimal).into_bytes()), out),
+        |out| proved::decimal_text(out, decimal),
+        || format!("decimal_text {}", decimal),
+    );
+}
+
 // ---- Daysheet ----
 
 /// Runs the program on a sheet; what it printed.
@@ -1319,7 +1367,7 @@ fn main() {
     let options = options();
     println!("compare: seed {}", options.seed);
     let mut tally = Tally::new();
-    let runs: [fn(&mut Tally, &mut Rng, u64); 8] = [
+    let runs: [fn(&mut Tally, &mut Rng, u64); 9] = [
         short_inputs,
         valid_messages,
         writes,
@@ -1328,6 +1376,7 @@ fn main() {
         odd_sessions,
         plans,
         sums,
+        decimals,
     ];
     // Each category has a generator of its own, so that none moves another.
     let rng = |category: usize| {
