@@ -18,22 +18,42 @@ static const char PASSWORD[] = "encrypted elsewhere";
 
 static const uint8_t *bytes_of(const char *text) { return (const uint8_t *)text; }
 
-static void print_decimal(const char *label, const uint8_t *bytes, size_t count, size_t position) {
-    featherloom_value value = featherloom_ask(bytes, count, position);
-    if (value.refusal == FEATHERLOOM_OK && value.sort == FEATHERLOOM_DECIMAL) {
+/* The numbers of the field at this position, or NULL where the message has none there. */
+static const uint64_t *field_at(const uint64_t *numbers, size_t fields, uint64_t position) {
+    for (size_t i = 0; i < fields; i++) {
+        const uint64_t *field = numbers + FEATHERLOOM_A_FIELD * i;
+        if (field[FEATHERLOOM_FIELD_POSITION] == position)
+            return field;
+    }
+    return NULL;
+}
+
+static void print_text(const char *label, const uint8_t *bytes, const uint64_t *field) {
+    if (field && field[FEATHERLOOM_FIELD_SORT] == FEATHERLOOM_TEXT)
+        printf(" %s=%.*s", label, (int)field[FEATHERLOOM_FIELD_LENGTH], (const char *)bytes + field[FEATHERLOOM_FIELD_OFFSET]);
+    else
+        printf(" %s=none", label);
+}
+
+static void print_decimal(const char *label, const uint64_t *field) {
+    if (field && field[FEATHERLOOM_FIELD_SORT] == FEATHERLOOM_DECIMAL) {
         uint8_t text[FEATHERLOOM_DECIMAL_TEXT_MOST];
-        featherloom_written written = featherloom_decimal_text(text, sizeof text, value.decimal);
+        featherloom_written written = featherloom_decimal_text(text, sizeof text, (int64_t)field[FEATHERLOOM_FIELD_VALUE]);
         printf(" %s=%.*s", label, (int)written.length, (const char *)text);
     } else {
-        printf(" %s refused=%u", label, value.refusal);
+        printf(" %s=none", label);
     }
 }
 
+/* One call reads the report and gives the places of all its fields. */
 static void print_report(const uint8_t *bytes, size_t count) {
-    featherloom_part order = featherloom_text(bytes, count, FEATHERLOOM_EXECUTION_REPORT_ORDER_ID);
-    printf("  order=%.*s", (int)order.length, (const char *)bytes + order.offset);
-    print_decimal("filled", bytes, count, FEATHERLOOM_EXECUTION_REPORT_CUMULATIVE_QUANTITY);
-    print_decimal("open", bytes, count, FEATHERLOOM_EXECUTION_REPORT_LEAVES_QUANTITY);
+    uint64_t numbers[FEATHERLOOM_FIELDS_ROOM];
+    featherloom_listed listed = featherloom_fields(bytes, count, numbers, FEATHERLOOM_FIELDS_ROOM);
+    size_t fields = listed.fields;
+    printf(" ");
+    print_text("order", bytes, field_at(numbers, fields, FEATHERLOOM_EXECUTION_REPORT_ORDER_ID));
+    print_decimal("filled", field_at(numbers, fields, FEATHERLOOM_EXECUTION_REPORT_CUMULATIVE_QUANTITY));
+    print_decimal("open", field_at(numbers, fields, FEATHERLOOM_EXECUTION_REPORT_LEAVES_QUANTITY));
     printf("\n");
 }
 

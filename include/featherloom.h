@@ -34,7 +34,7 @@ enum {
     FEATHERLOOM_MISSING_FIELD = 8,    /* besides: the lowest required position that is clear */
     FEATHERLOOM_BAD_FIELD = 9,        /* besides: the first bad field's position */
     FEATHERLOOM_LEFT_OVER = 10,       /* bytes after the last field; besides: how many */
-    FEATHERLOOM_NO_ROOM = 11,         /* besides: the bytes needed; of a plan, `pairs` holds the pairs needed */
+    FEATHERLOOM_NO_ROOM = 11,         /* besides: the bytes, or a list's numbers, needed; of a plan, `pairs` holds the pairs */
     FEATHERLOOM_TOO_LONG = 12,        /* the written message would have more than 4,096 bytes */
     FEATHERLOOM_ABSENT = 13,          /* the position asked is known, and clear */
     FEATHERLOOM_OTHER_SORT = 14,      /* a number asked of a text, or a text of a number */
@@ -156,7 +156,7 @@ typedef struct featherloom_part {
     size_t length;
 } featherloom_part;
 
-enum { FEATHERLOOM_NUMBER = 1, FEATHERLOOM_DECIMAL = 2 };
+enum { FEATHERLOOM_NUMBER = 1, FEATHERLOOM_DECIMAL = 2, FEATHERLOOM_TEXT = 3 };
 
 /* A number, or a Decimal: a count of hundred-millionths. sort says which; it is 0 on a refusal. */
 typedef struct featherloom_value {
@@ -180,6 +180,35 @@ featherloom_value featherloom_ask(const uint8_t *bytes, size_t count, size_t pos
 
 /* The characters of the text at a position, without its null: the reader's refusals, then 7, 13, 14. */
 featherloom_part featherloom_text(const uint8_t *bytes, size_t count, size_t position);
+
+/*
+ * All fields in one call. Each set field takes five numbers of the list, in rising position; these are the places of the five.
+ * What the list says of a position is what featherloom_ask or featherloom_text answers there.
+ */
+enum {
+    FEATHERLOOM_FIELD_POSITION = 0,
+    FEATHERLOOM_FIELD_SORT = 1,   /* FEATHERLOOM_NUMBER, FEATHERLOOM_DECIMAL or FEATHERLOOM_TEXT */
+    FEATHERLOOM_FIELD_OFFSET = 2, /* where in the caller's bytes the value, or a text's first character, begins */
+    FEATHERLOOM_FIELD_LENGTH = 3, /* how many bytes the value has, or how many characters the text */
+    FEATHERLOOM_FIELD_VALUE = 4,  /* the number; a Decimal's 64 bits, which (int64_t) turns back into it; 0 of a text */
+    FEATHERLOOM_A_FIELD = 5       /* how many numbers a field takes */
+};
+
+/* Room for every message's fields. With this much the fields need not be counted before they are laid. */
+enum { FEATHERLOOM_FIELDS_ROOM = 320 };
+
+/* The reading, and how many fields the list has; 0 on a refusal. */
+typedef struct featherloom_listed {
+    featherloom_reading reading;
+    size_t fields;
+} featherloom_listed;
+
+/*
+ * Reads the message as featherloom_read does, and lays all its fields into `numbers`, which has room for `room` numbers: the
+ * reader's refusals, then 11 with the numbers needed. On a refusal the list is as it was, and what stands behind the laid
+ * numbers always is.
+ */
+featherloom_listed featherloom_fields(const uint8_t *bytes, size_t count, uint64_t *numbers, size_t room);
 
 /* CRC32C (RFC 3720) of the bytes, as it closes every message. */
 uint32_t featherloom_crc32c(const uint8_t *bytes, size_t count);
@@ -348,6 +377,7 @@ FEATHERLOOM_ASSERT(sizeof(featherloom_reading) == 32);
 FEATHERLOOM_ASSERT(offsetof(featherloom_reading, kind) == 24);
 FEATHERLOOM_ASSERT(sizeof(featherloom_part) == 32);
 FEATHERLOOM_ASSERT(sizeof(featherloom_value) == 32);
+FEATHERLOOM_ASSERT(sizeof(featherloom_listed) == 40);
 FEATHERLOOM_ASSERT(sizeof(featherloom_header) == 8);
 FEATHERLOOM_ASSERT(offsetof(featherloom_header, number) == 4);
 FEATHERLOOM_ASSERT(sizeof(featherloom_written) == 24);

@@ -94,7 +94,8 @@ enum Kind {
     Variable,
 }
 
-/// The sort of a value: a number, a Decimal, a text.
+/// The sort of a value: what a list of fields calls a number, a Decimal and a
+/// text.
 const NUMBER: u8 = 1;
 const DECIMAL: u8 = 2;
 const TEXT: u8 = 3;
@@ -335,6 +336,7 @@ struct Opened<'a> {
 
 /// A field as the walk meets it, by places in the body.
 struct Place {
+    position: usize,
     kind: Kind,
     /// Where the value begins.
     at: usize,
@@ -397,6 +399,7 @@ fn walk(
         }
         let start = body.len() - rest.len();
         note(Place {
+            position,
             kind: shape.kind,
             at: start + before,
             length,
@@ -552,6 +555,54 @@ pub fn ask_text(bytes: &[u8], position: u32) -> Result<&[u8], Refusal> {
     };
     // The walk has found the null.
     Ok(&text[..text_end(text).unwrap_or(0)])
+}
+
+/// How many numbers a list has for a field: position, sort, offset, length,
+/// value.
+pub const A_FIELD: usize = 5;
+
+/// Reads the message and lays five numbers for every set field into `list`, in
+/// rising position: the position; the sort (1 a number, 2 a Decimal, 3 a text);
+/// where the value begins in `bytes`; how many bytes the number or characters
+/// the text has; the value (a Decimal's 64 bits, 0 for a text). Gives the header
+/// and how many fields there are. The reader's refusals, then 11 with the
+/// numbers needed; a refusal leaves `list` as it was. The answers of
+/// `reader::list`.
+pub fn fields(bytes: &[u8], list: &mut [u64]) -> Result<(Head, usize), Refusal> {
+    let Opened {
+        head,
+        layout,
+        map,
+        body,
+        ..
+    } = open(bytes)?;
+    // The walk may still refuse, so it notes the places beside the list.
+    let mut places = [(0u16, 0u16); 64];
+    let end = walk(layout, map, body, 0, |place| {
+        places[place.position] = (place.at as u16, place.length as u16);
+    })?;
+    check_end(body, end)?;
+    let count = map.count_ones() as usize;
+    if list.len() < A_FIELD * count {
+        return refused(11, A_FIELD * count);
+    }
+    let mut map = map;
+    for numbers in list[..A_FIELD * count].chunks_exact_mut(A_FIELD) {
+        let position = (map.leading_zeros() & 63) as usize;
+        map ^= TOP >> position;
+        let shape = layout.shapes[position];
+        let (at, length) = places[position];
+        let (at, length) = (usize::from(at), usize::from(length));
+        numbers[0] = position as u64;
+        numbers[1] = u64::from(shape.sort);
+        numbers[2] = (BODY + at) as u64;
+        numbers[3] = length as u64;
+        numbers[4] = match shape.sort {
+            TEXT => 0,
+            _ => value_at(body, at, length),
+        };
+    }
+    Ok((head, count))
 }
 
 // ---- Writer ----

@@ -42,6 +42,13 @@ pub struct Value {
 
 #[repr(C)]
 #[derive(Clone, Copy, Debug, Default, PartialEq, Eq)]
+pub struct Listed {
+    pub reading: Reading,
+    pub fields: usize,
+}
+
+#[repr(C)]
+#[derive(Clone, Copy, Debug, Default, PartialEq, Eq)]
 pub struct Header {
     pub kind: u8,
     pub possdup: u8,
@@ -138,6 +145,7 @@ const _: () = assert!(
     size_of::<Reading>() == 32
         && size_of::<Part>() == 32
         && size_of::<Value>() == 32
+        && size_of::<Listed>() == 40
         && size_of::<Header>() == 8
         && size_of::<Written>() == 24
         && size_of::<Session>() == 28
@@ -156,6 +164,8 @@ extern "C" {
     fn featherloom_body(bytes: *const u8, count: usize) -> Part;
     fn featherloom_ask(bytes: *const u8, count: usize, position: usize) -> Value;
     fn featherloom_text(bytes: *const u8, count: usize, position: usize) -> Part;
+    fn featherloom_fields(bytes: *const u8, count: usize, numbers: *mut u64, room: usize)
+        -> Listed;
     fn featherloom_crc32c(bytes: *const u8, count: usize) -> u32;
     fn featherloom_write(
         buffer: *mut u8,
@@ -227,6 +237,10 @@ pub fn ask(bytes: &[u8], position: usize) -> Value {
 
 pub fn text(bytes: &[u8], position: usize) -> Part {
     unsafe { featherloom_text(at(bytes), bytes.len(), position) }
+}
+
+pub fn fields(bytes: &[u8], numbers: &mut [u64]) -> Listed {
+    unsafe { featherloom_fields(at(bytes), bytes.len(), numbers.as_mut_ptr(), numbers.len()) }
 }
 
 pub fn crc32c(bytes: &[u8]) -> u32 {

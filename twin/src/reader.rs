@@ -23,6 +23,14 @@ pub enum Value {
     Decimal(i64),
 }
 
+/// How many numbers a field takes in a list.
+pub const A_FIELD: usize = 5;
+
+/// What a list calls the sorts. A Byte field is a number.
+const NUMBER: u64 = 1;
+const DECIMAL: u64 = 2;
+const TEXT: u64 = 3;
+
 /// The message at the front as one slice: refusals 2, 1, 3, 1, 4.
 fn frame(bytes: &[u8]) -> Result<&[u8], Refusal> {
     if !bytes.is_empty() && bytes[0] != START {
@@ -151,4 +159,34 @@ pub fn ask_text(bytes: &[u8], position: u32) -> Result<&[u8], Refusal> {
         Sort::Fixed | Sort::Variable => Ok(found.text),
         Sort::Number | Sort::Byte | Sort::Decimal => Err(refuse(OTHER_SORT, 0)),
     }
+}
+
+/// Lists all fields in rising position, five numbers each: the position; the
+/// sort; where in `bytes` the value or a text's first character begins; how many
+/// bytes the value has, or how many characters the text; the number, a Decimal's
+/// 64 bits, or 0 for a text. All of the reader's refusals, then 11 with the
+/// numbers needed where the list has room for fewer.
+pub fn list(bytes: &[u8], room: usize) -> Result<(Head, Vec<[u64; A_FIELD]>), Refusal> {
+    let (head, fields) = whole(bytes)?;
+    let needed = A_FIELD * fields.len();
+    if needed > room {
+        return Err(refuse(NO_ROOM, needed));
+    }
+    let mut list = Vec::new();
+    // The fields stand one behind the other from the body's first byte on.
+    let mut at = BODY_AT;
+    for found in fields {
+        let (whole, text) = (found.whole.len(), found.text.len());
+        let (sort, begin, length, value) = match found.field.sort {
+            Sort::Number | Sort::Byte => (NUMBER, at, whole, number(found.whole)),
+            Sort::Decimal => (DECIMAL, at, whole, number(found.whole)),
+            Sort::Fixed => (TEXT, at, text, 0),
+            // Its two length bytes stand before the characters.
+            Sort::Variable => (TEXT, at + 2, text, 0),
+        };
+        let position = found.position as u64;
+        list.push([position, sort, begin as u64, length as u64, value]);
+        at += whole;
+    }
+    Ok((head, list))
 }

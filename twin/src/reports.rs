@@ -11,6 +11,9 @@ use crate::writer::{self, HeadValues};
 /// Our Comp ID.
 pub const US: &[u8] = b"RECORDER01";
 
+/// Room for the list of every message's fields, as the library's header has it.
+pub const LIST: usize = 320;
+
 /// An execution report by one of the nine tables: all that it requires and
 /// some of the rest, 180 to 350 bytes.
 fn report(rng: &mut Rng, number: u32) -> Vec<u8> {

@@ -1,7 +1,8 @@
 use crate::daysheet::daysheet;
 use crate::make::{self, Event, Given, Rng};
 use crate::plan::plan;
-use crate::reader::{self, Value};
+use crate::reader::{self, Value, A_FIELD};
+use crate::reports::LIST;
 use crate::session::{Answer, Phase, Row, RowSort, Send, Session, LAST, NOTHING, NO_ROW};
 use crate::tables::{self, Sort};
 use crate::wire::{self, is_set, refuse, set, Refusal, LEAST, MAP_WIDTH, MOST};
@@ -371,6 +372,152 @@ fn asking() {
     let fill = writer::gap_fill(2, US, 7).unwrap();
     assert_eq!(reader::ask_number(&fill, 0), Ok(Value::Number(89)));
     assert_eq!(reader::read(&fill).unwrap().poss_dup, 1);
+}
+
+/// A fixed text in plain form.
+fn padded(text: &[u8], width: usize) -> Vec<u8> {
+    let mut bytes = text.to_vec();
+    bytes.resize(width, 0);
+    bytes
+}
+
+/// A Business Message Reject with all its fields: numbers of three widths, a
+/// variable text with bytes after its null, a fixed text and an empty one.
+fn business_reject() -> Vec<u8> {
+    let body = [
+        &[0x34, 0x12][..],
+        &[6, 0, b'n', b'o', 0, 200, 0, b'x'],
+        &[10],
+        &padded(b"Side", 50),
+        &[0xFF, 0xFE, 0xFD, 0xFC],
+        &padded(b"", 21),
+    ]
+    .concat();
+    framed(9, 8, &[0, 1, 2, 3, 4, 5], &body)
+}
+
+#[test]
+fn listing() {
+    let listed = |bytes: &[u8]| {
+        let (head, fields) = reader::list(bytes, LIST).unwrap();
+        assert_eq!(Ok(head), reader::read(bytes));
+        fields
+    };
+    // The body begins at 54. The numbers of a field: position, sort (1 a number,
+    // 2 a Decimal, 3 a text), offset, length, value.
+    let reject = business_reject();
+    let fields = [
+        [0, 1, 54, 2, 0x1234],
+        [1, 3, 58, 2, 0],
+        [2, 1, 64, 1, 10],
+        [3, 3, 65, 4, 0],
+        [4, 1, 115, 4, 0xFCFD_FEFF],
+        [5, 3, 119, 0, 0],
+    ];
+    assert_eq!(listed(&reject), fields);
+    assert_eq!(reject[58..60], *b"no");
+    assert_eq!(reject[65..69], *b"Side");
+    // What stands behind the message is not looked at.
+    assert_eq!(listed(&[&reject[..], &reject].concat()), fields);
+
+    // An execution report: what is required, all zeros but for the Security ID
+    // and the Cumulative Quantity, with a Price below zero and an empty Text.
+    let (mut positions, mut body) = required_body();
+    body[12..15].copy_from_slice(b"700");
+    body[104..112].copy_from_slice(&i64::MIN.to_le_bytes());
+    positions.extend([12, 19]);
+    // Price and Text stand before position 21, which began at 81 of the body.
+    body.splice(81..81, [0xFE, 255, 255, 255, 255, 255, 255, 255, 1, 0, 0]);
+    assert_eq!(
+        listed(&framed(10, 1, &positions, &body)),
+        [
+            [1, 3, 54, 0, 0],
+            [2, 3, 66, 3, 0],
+            [3, 1, 87, 1, 0],
+            [6, 3, 88, 0, 0],
+            [7, 1, 113, 1, 0],
+            [9, 3, 114, 0, 0],
+            [12, 2, 135, 8, -2_i64 as u64],
+            [19, 3, 145, 0, 0],
+            [21, 3, 146, 0, 0],
+            [22, 1, 167, 1, 0],
+            [23, 1, 168, 1, 0],
+            [24, 2, 169, 8, i64::MIN as u64],
+            [25, 2, 177, 8, 0],
+            [37, 1, 185, 1, 0],
+        ]
+    );
+
+    // A Byte is a number.
+    let fill = writer::gap_fill(2, US, 7).unwrap();
+    assert_eq!(listed(&fill), [[0, 1, 54, 1, 89], [1, 1, 55, 4, 7]]);
+    let heartbeat = writer::heartbeat(1, US).unwrap();
+    assert!(listed(&heartbeat).is_empty());
+}
+
+#[test]
+fn listing_refusals_in_order() {
+    let refused = |bytes: &[u8], room| reader::list(bytes, room).unwrap_err();
+    let reject = business_reject();
+    let needed = 6 * A_FIELD;
+    for room in [needed, needed + 1, LIST] {
+        assert_eq!(reader::list(&reject, room).unwrap().1.len(), 6);
+    }
+    for room in [0, 1, needed - A_FIELD, needed - 1] {
+        assert_eq!(refused(&reject, room), refuse(11, needed));
+    }
+    let heartbeat = writer::heartbeat(1, US).unwrap();
+    assert!(reader::list(&heartbeat, 0).is_ok());
+
+    // The reader's refusals come before 11.
+    let cut = &reject[..reject.len() - 1];
+    assert_eq!(refused(cut, 0), refuse(1, reject.len()));
+    let mut sum = reject.clone();
+    sum[70] ^= 1;
+    assert_eq!(refused(&sum, 0), refuse(4, reject.len()));
+    assert_eq!(refused(&framed(2, 1, &[0, 1], &[0; 7]), 0), refuse(9, 1));
+    assert_eq!(refused(&framed(2, 1, &[0, 1], &[0; 11]), 0), refuse(10, 3));
+}
+
+/// What a list says of a position is what asking there says, and the positions
+/// that it leaves out are clear or unknown.
+#[test]
+fn lists_what_asking_says() {
+    let mut rng = Rng::new(22);
+    for _ in 0..400 {
+        let kind = rng.below(11) as u8;
+        let number = rng.any_u32().max(1);
+        let comp_id = make::comp_id(&mut rng);
+        let bytes = make::message(&mut rng, kind, number, &comp_id);
+        let (_, fields) = reader::list(&bytes, LIST).unwrap();
+        let mut fields = fields.into_iter().peekable();
+        for asked in 0..256 {
+            let listed = fields.next_if(|field| field[0] == u64::from(asked));
+            let number = reader::ask_number(&bytes, asked);
+            let text = reader::ask_text(&bytes, asked);
+            let [_, sort, offset, length, value] = match listed {
+                Some(field) => field,
+                None => {
+                    let refusal = number.unwrap_err();
+                    assert_eq!(text, Err(refusal));
+                    assert!(refusal.number == 7 || refusal.number == 13);
+                    continue;
+                }
+            };
+            let part = &bytes[offset as usize..(offset + length) as usize];
+            match sort {
+                1 => assert_eq!(number, Ok(Value::Number(value))),
+                2 => assert_eq!(number, Ok(Value::Decimal(value as i64))),
+                _ => assert_eq!((sort, text, value), (3, Ok(part), 0)),
+            }
+            match text {
+                // The same bytes of the caller, not only the same characters.
+                Ok(text) => assert_eq!(part.as_ptr(), text.as_ptr()),
+                Err(_) => assert_eq!(wire::number(part), value),
+            }
+        }
+        assert_eq!(fields.next(), None);
+    }
 }
 
 // ---- Writer ----
@@ -1127,6 +1274,31 @@ fn plain_asks_as_reader() {
     }
 }
 
+#[test]
+fn plain_lists_as_reader() {
+    const BEFORE: u64 = 0xEEEE_EEEE_EEEE_EEEE;
+    let mut rng = Rng::new(23);
+    let mut seen = [0u32; 12];
+    for _ in 0..6_000 {
+        let bytes = good_or_spoiled(&mut rng);
+        let needed = reader::list(&bytes, LIST).map_or(0, |(_, all)| A_FIELD * all.len());
+        let too_small = needed.saturating_sub(1);
+        for room in [needed, too_small, rng.index(needed + 1), LIST] {
+            let answer = reader::list(&bytes, room);
+            let (mut slow, mut fast) = ([BEFORE; LIST], [BEFORE; LIST]);
+            if let Ok((_, fields)) = &answer {
+                slow[..needed].copy_from_slice(&fields.concat());
+            }
+            let answer = answer.map(|(head, fields)| (head, fields.len()));
+            let listed = plain::fields(&bytes, &mut fast[..room]);
+            assert_eq!(listed, answer, "room {} {:?}", room, bytes);
+            assert_eq!(fast, slow, "room {} {:?}", room, bytes);
+            seen[answer.map_or_else(|r| r.number as usize, |_| 0)] += 1;
+        }
+    }
+    assert!(seen.iter().all(|&count| count > 0), "{:?}", seen);
+}
+
 /// Spoils one thing of what a writer is given.
 fn spoil_parts(
     rng: &mut Rng,
@@ -1217,6 +1389,8 @@ fn random_bytes_never_panic() {
         let position = rng.below(300) as u32;
         let _ = reader::ask_number(&bytes, position);
         let _ = reader::ask_text(&bytes, position);
+        let listed = reader::list(&bytes, LIST).map(|(head, fields)| (head, fields.len()));
+        assert_eq!(plain::fields(&bytes, &mut [0; LIST]), listed);
         let mut session = live(3, 4);
         session.step(&bytes);
         let mut map = [0; MAP_WIDTH];

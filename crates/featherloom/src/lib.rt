@@ -1,6 +1,7 @@
 //! The functions of include/featherloom.h, under their C names. Each hands on to `capi` or below, and promises the same.
 use capi::shape::CConnected;
 use capi::shape::CHeader;
+use capi::shape::CListed;
 use capi::shape::CMade;
 use capi::shape::CPart;
 use capi::shape::CPlanned;
@@ -12,12 +13,14 @@ use capi::shape::CValue;
 use capi::shape::CWritten;
 ghost use mathlib.Core.Path.{_≡_};
 ghost use Rattle.crc.specs.Crc.{crc32c};
+ghost use Rattle.message.specs.Read.{readOf};
+ghost use Rattle.message.specs.List.{listBy, listFields};
 ghost use Rattle.plan.specs.Plan.{planOf, planned};
 ghost use Rattle.spelt.specs.Spelt.{amountText};
 ghost use Rattle.wire.specs.Laying.{laid, laidAnswer};
 ghost use Rattle.writer.specs.Write.{writeOf, written};
 ghost use Rattle.capi.specs.Planning.{shownPlanned};
-ghost use Rattle.capi.specs.Reading.{readC, compIdC, mapC, bodyC, askC, textC};
+ghost use Rattle.capi.specs.Reading.{readC, shownListed, compIdC, mapC, bodyC, askC, textC};
 ghost use Rattle.capi.specs.Sessions.{freshC, savedC, connectC, dropC, stepC, sendC, sentC, logonC, logonSentC};
 ghost use Rattle.capi.specs.Writing.{shownWritten, shownLaid, headerOf};
 
@@ -61,6 +64,13 @@ pub extern "C" fn featherloom_text(bytes: &[u8], position: usize) -> CPart
     ensures { λ r. ⌜ r ≡ textC (now (bytes .entry)) position ⌝ }
 {
     capi::read::text_c(bytes, position)
+}
+
+#[no_mangle]
+pub extern "C" fn featherloom_fields(bytes: &[u8], numbers: &mut [u64]) -> CListed
+    ensures { λ r. ⌜ (r ≡ shownListed (listFields (now (bytes .entry)) (now (numbers .entry)))) × (now (numbers .exit) ≡ laid (listBy (now (bytes .entry)) (readOf (now (bytes .entry)))) (now (numbers .entry))) ⌝ }
+{
+    capi::read::fields_c(bytes, numbers)
 }
 
 #[no_mangle]

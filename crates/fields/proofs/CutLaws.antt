@@ -1,24 +1,19 @@
--- The cut, as the loops go through it: a cursor goes from piece to piece; where a set position's field begins is what the fields before it leave;
--- and every byte of it is a byte of the body.
-use mathlib.Core.Path.{_≡_, refl, sym, ap, subst, _∙_}
+-- The cut: where a set position's field begins is what the fields before it leave, as a loop over the positions finds it; a clear position has
+-- no bytes; and every byte of a field is a byte of the body.
+use mathlib.Core.Path.{_≡_, refl, sym, ap, _∙_}
 use mathlib.Core.Bool.{Bool, true, false, cond}
 use mathlib.Core.List.{List, [], _∷_, _++_}
-use Prim.Native.Nat.{ℕ, zero, suc, _+_, _-_, _*_, _≤_, _<_, min}
-use native.Mathlib.Nat.{le-refl, min-le-left, min-eq-left, min-eq-right}
+use Prim.Native.Nat.{ℕ, zero, suc, _+_, _≤_, _<_, min}
+use native.Mathlib.Nat.{le-refl, min-le-left}
 use native.Mathlib.Omega.{arith}
 use lib.Dec.{eqb, ltb}
-use lib.ListN.{length, drop, getD, length-drop, drop-of-length-le}
+use lib.ListN.{length, drop, length-drop, drop-of-length-le}
 use lib.Seq.{drop-drop}
-use borrow.Author.Tests.{eq-eqb, ne-eqb, lt-ltb, le-ltb, ltb-true, ltb-false}
+use borrow.Author.Tests.{eq-eqb, ne-eqb, ltb-true, ltb-false}
 use Rattle.tables.specs.declared.table.Row.{Row}
-use Rattle.wire.specs.Map.{present, nextBit}
-use Rattle.wire.proofs.MapLaws.{present-at, nextBit-within}
-use Rattle.wire.specs.Search.{firstFrom}
-use Rattle.wire.proofs.SearchLaws.{first-from, first-within, first-before, first-found, first-is}
-use Rattle.fields.specs.declared.cut.Cursor.{Cursor}
-use Rattle.fields.specs.Words.{ClearFrom}
-use Rattle.fields.specs.Cut.{positions, extentOf, Piece, cutAt, cut, bytesAt, nextSet, firstField, nextField, cutFrom}
-use Rattle.fields.proofs.PositionLaws.{next-of, present-between, present-beyond, later, later-set, later-skip, around}
+use Rattle.wire.specs.Map.{present}
+use Rattle.fields.specs.Cut.{positions, extentOf, Piece, cutAt, cut, bytesAt}
+use Rattle.fields.proofs.PositionLaws.{later, later-set, later-clear, around}
 
 -- at a piece: it is the one, or the search goes on
 module _ (p : ℕ) (x : Piece) (xs : List Piece) where
@@ -65,193 +60,66 @@ module _ (rows : ℕ → Row) where
       let n : min p 256 ≤ p = min-le-left p 256 in
       rw (around m 256 p h b) (found-at p (later m 256 (p + 1)) m (min p 256) 0 body (omega arith))
 
--- the next set position: none between is set
-pub record NextSet (m : List ℕ) (p r : ℕ) : Type 0 where
-  pub from : p ≤ 256 → p ≤ r
-  pub within : r ≤ 256
-  pub clear : (k : ℕ) → p ≤ k → k < r → present m k ≡ false
-  pub set : r < 256 → present m r ≡ true
-
-next-by : (m : List ℕ) (p : ℕ) (b : Bool) → ltb p 256 ≡ b → NextSet m p (cond b (firstFrom (present m) (256 - p) p) 256)
-next-by m p true e =
-    let l : p < 256 = ltb-true p 256 e in
-    let w : firstFrom (present m) (256 - p) p ≤ p + (256 - p) = first-within (present m) (256 - p) p in
-    record {
-      from = λ h. first-from (present m) (256 - p) p;
-      within = omega arith;
-      clear = λ k a b. first-before (present m) (256 - p) p k a b;
-      set = λ h. first-found (present m) (256 - p) p (omega arith);
-    }
-next-by m p false e =
-    let l : 256 ≤ p = ltb-false p 256 e in
-    record { from = λ h. omega arith; within = omega arith; clear = λ k a b. absurd (omega arith); set = λ h. absurd (omega arith) }
-
-pub next-set : (m : List ℕ) (p : ℕ) → NextSet m p (nextSet m p)
-unfolding nextSet
-next-set m p = next-by m p (ltb p 256) refl
-
--- and these facts leave no other
-pub next-set-is : (m : List ℕ) (p r : ℕ) → p < 256 → p ≤ r → r ≤ 256 → ((k : ℕ) → p ≤ k → k < r → present m k ≡ false)
-    → (r < 256 → present m r ≡ true) → r ≡ nextSet m p
-unfolding nextSet
-next-set-is m p r h l u none one =
-    rw (lt-ltb p 256 h) (sym (first-is (present m) (256 - p) p r l (omega arith) none (λ v. one (omega arith))))
-
-pub next-set-past : (m : List ℕ) (p : ℕ) → 256 ≤ p → 256 ≡ nextSet m p
-unfolding nextSet
-next-set-past m p h = rw (le-ltb p 256 h)
-
--- a loop over the bytes of a map that looks for it: no position from p to below q is set
-pub record Clear (m : List ℕ) (p q : ℕ) : Type 0 where
-  pub none : (k : ℕ) → p ≤ k → k < q → present m k ≡ false
-
-pub clear-none : (m : List ℕ) (p q : ℕ) → q ≤ p → Clear m p q
-clear-none m p q h = record { none = λ k l u. absurd (omega arith) }
-
-clear-on : (m : List ℕ) (p q r : ℕ) → Clear m p q → ((k : ℕ) → q ≤ k → k < r → present m k ≡ false) → Clear m p r
-clear-on m p q r h g = record { none = λ k l u. go k l u (ltb k q) refl }
-  where
-    go : (k : ℕ) → p ≤ k → k < r → (t : Bool) → ltb k q ≡ t → present m k ≡ false
-    go k l u true e = h .none k l (ltb-true k q e)
-    go k l u false e = g k (ltb-false k q e) u
-
-clear-all : (m : List ℕ) (p : ℕ) → Clear m p 256 → 256 ≡ nextSet m p
-clear-all m p h = go (ltb p 256) refl
-  where
-    go : (t : Bool) → ltb p 256 ≡ t → 256 ≡ nextSet m p
-    go true e =
-        let l : p < 256 = ltb-true p 256 e in
-        next-set-is m p 256 l (omega arith) (omega arith) (h .none) (λ v. absurd (omega arith))
-    go false e = next-set-past m p (ltb-false p 256 e)
-
--- a search from p may begin at byte i, where no position before that byte is set
-pub clear-skip : (m : List ℕ) (p i r : ℕ) → Clear m p (i * 8 + 0) → p < 256 → p ≤ i * 8 → i ≤ 32 → r ≡ nextSet m (i * 8) → r ≡ nextSet m p
-clear-skip m p i r h l b u e =
-    let x = next-set m (i * 8) in
-    let o : i * 8 ≤ nextSet m (i * 8) = x .from (omega arith) in
-    e ∙ next-set-is m p (nextSet m (i * 8)) l (omega arith) (x .within)
-    (clear-on m p (i * 8 + 0) (nextSet m (i * 8)) h (λ k v w. x .clear k (omega arith) w) .none) (x .set)
-
-module _ (m : List ℕ) (p i from : ℕ) (h : Clear m p (i * 8 + from)) where
-  pub clear-byte : (r : ℕ) → r ≡ nextBit (getD m i 0) from → 8 ≤ r → Clear m p ((i + 1) * 8 + 0)
-  clear-byte r x l =
-      let u : r ≤ 8 = omega (arith, nextBit-within (getD m i 0) from) in
-      let z : (i + 1) * 8 + 0 ≡ i * 8 + r = omega arith in
-      rw z (clear-on m p (i * 8 + from) (i * 8 + r) h (present-between m i from r x))
-
-  pub clear-hit : (r : ℕ) → p ≤ i * 8 + from → from < 8 → i < 32 → r ≡ nextBit (getD m i 0) from → r < 8 → i * 8 + r ≡ nextSet m p
-  clear-hit r b f d x l =
-      let y = next-of (getD m i 0) from r x in
-      let o : from ≤ r = y .from (omega arith) in
-      let w = clear-on m p (i * 8 + from) (i * 8 + r) h (present-between m i from r x) in
-      next-set-is m p (i * 8 + r) (omega arith) (omega arith) (omega arith) (w .none) (λ v. present-at m i r l ∙ y .set l)
-
-  -- all the map's 256 positions are passed, or the map has ended, or no position behind is set
-  pub clear-end : 32 ≤ i → 256 ≡ nextSet m p
-  clear-end d = clear-all m p (record { none = λ k v u. h .none k v (omega arith) })
-
-  pub clear-beyond : length m ≤ i → 256 ≡ nextSet m p
-  clear-beyond d = clear-all m p (clear-on m p (i * 8 + from) 256 h (λ k v w. present-beyond m i d k (omega arith)))
-
-  pub clear-low : i ≡ 8 → ClearFrom 64 m → 256 ≡ nextSet m p
-  clear-low e x = clear-all m p (clear-on m p (i * 8 + from) 256 h (λ k v w. x .clear k (omega arith) w))
-
--- past a body's end nothing is left
-drop-least : (k : ℕ) (s : List ℕ) (b : Bool) → ltb (length s) k ≡ b → drop (min (length s) k) s ≡ drop k s
-drop-least k s true e =
-    let l : length s < k = ltb-true (length s) k e in
-    let a : length s ≤ k = omega arith in
-    ap (λ (n : ℕ). drop n s) (min-eq-left a) ∙ drop-of-length-le s (le-refl (length s)) ∙ sym (drop-of-length-le s a)
-drop-least k s false e = ap (λ (n : ℕ). drop n s) (min-eq-right (ltb-false (length s) k e))
-
-module _ (rows : ℕ → Row) (m body : List ℕ) where
-  later-from : (p : ℕ) → p ≤ 256 → later m 256 p ≡ later m 256 (nextSet m p)
-  later-from p h =
-      let x = next-set m p in
-      later-skip m 256 p (nextSet m p) (x .from h) (x .within) (x .clear)
-
-  -- a cursor at the first field has all of them before it
-  pub cut-first : cutFrom rows m body (firstField m) ≡ cut rows m body
-  unfolding cutFrom firstField cut
-  cut-first = ap (λ (ps : List ℕ). cutAt rows ps body) (sym (later-from 0 (omega arith)))
-
-  -- at a field it has that one, and then those that the next cursor has
-  pub cut-next : (c : Cursor) → c .position < 256 → present m (c .position) ≡ true
-      → cutFrom rows m body c ≡ record { position = c .position; bytes = drop (c .at) body } ∷ cutFrom rows m body (nextField m body (extentOf (rows (c .position)) (drop (c .at) body)) c)
-  unfolding cutFrom nextField cutAt
-  cut-next c h here =
-      let p = c .position in
-      let s = drop (c .at) body in
-      let n = extentOf (rows p) s in
-      let a : later m 256 p ≡ p ∷ later m 256 (nextSet m (p + 1)) =
-      later-set m 256 p h here ∙ ap (λ (ps : List ℕ). p ∷ ps) (later-from (p + 1) (omega arith)) in
-      let b : drop n s ≡ drop (min (length body) (c .at + n)) body = drop-drop n (c .at) body ∙ sym (drop-least (c .at + n) body _ refl) in
-      ap (λ (ps : List ℕ). cutAt rows ps s) a ∙ ap (λ (t : List ℕ). record { position = p; bytes = s } ∷ cutAt rows (later m 256 (nextSet m (p + 1))) t) b
-
-  none-step : (p : ℕ) (b : Bool) (k : ℕ) (ps s : List ℕ) → eqb k p ≡ false → ((s : List ℕ) → bytesAt p (cutAt rows ps s) ≡ [])
+module _ (rows : ℕ → Row) (m : List ℕ) (p : ℕ) where
+  none-step : (b : Bool) (k : ℕ) (ps s : List ℕ) → (b ≡ true → k ≡ p → ⊥) → ((s : List ℕ) → bytesAt p (cutAt rows ps s) ≡ [])
       → bytesAt p (cutAt rows (cond b (k ∷ ps) ps) s) ≡ []
-  unfolding cutAt bytesAt
-  none-step p true k ps s e again = rw e (again (drop (extentOf (rows k) s) s))
-  none-step p false k ps s e again = again s
+  unfolding cutAt
+  none-step true k ps s h again =
+      bytes-past p (record { position = k; bytes = s }) (cutAt rows ps (drop (extentOf (rows k) s) s)) (h refl) ∙ again (drop (extentOf (rows k) s) s)
+  none-step false k ps s h again = again s
 
-  none-at : (p n k : ℕ) (s : List ℕ) → p < k → bytesAt p (cutAt rows (positions m n k) s) ≡ []
+  none-at : (n k : ℕ) (s : List ℕ) → k + n ≤ 256 → ((q : ℕ) → q < 256 → present m q ≡ true → q ≡ p → ⊥)
+      → bytesAt p (cutAt rows (positions m n k) s) ≡ []
   unfolding positions cutAt bytesAt
-  none-at p zero k s h = refl
-  none-at p (suc n) k s h =
-      none-step p (present m k) k (positions m n (suc k)) s (ne-eqb k p (λ e. omega arith)) (λ s. none-at p n (suc k) s (omega arith))
-
-  none-past : (p n k : ℕ) (s : List ℕ) → k + n ≤ p → bytesAt p (cutAt rows (positions m n k) s) ≡ []
-  unfolding positions cutAt bytesAt
-  none-past p zero k s h = refl
-  none-past p (suc n) k s h =
-      none-step p (present m k) k (positions m n (suc k)) s (ne-eqb k p (λ e. omega arith)) (λ s. none-past p n (suc k) s (omega arith))
+  none-at zero k s h other = refl
+  none-at (suc n) k s h other =
+      none-step (present m k) k (positions m n (suc k)) s (other k (omega arith)) (λ s. none-at n (suc k) s (omega arith) other)
 
   -- no map has such a position
-  pub bytes-far : (p : ℕ) → 256 ≤ p → [] ≡ bytesAt p (cut rows m body)
+  pub bytes-far : (body : List ℕ) → 256 ≤ p → [] ≡ bytesAt p (cut rows m body)
   unfolding cut
-  bytes-far p h = sym (none-past p 256 0 body (omega arith))
+  bytes-far body h = sym (none-at 256 0 body (omega arith) (λ q l t e. omega arith))
 
-  -- the step of a loop that asks how many bytes the field takes
-  pub took : (c : Cursor) (s : List ℕ) (n : ℕ) (d : Cursor) → s ≡ drop (c .at) body → n ≡ extentOf (rows (c .position)) s
-      → d ≡ nextField m body n c → d ≡ nextField m body (extentOf (rows (c .position)) (drop (c .at) body)) c
-  took c s n d r e x =
-      x ∙ ap (λ (k : ℕ). nextField m body k c) (e ∙ ap (extentOf (rows (c .position))) r)
+  -- this map has it clear
+  pub bytes-clear : (body : List ℕ) → present m p ≡ false → [] ≡ bytesAt p (cut rows m body)
+  unfolding cut
+  bytes-clear body h =
+      sym (none-at 256 0 body (omega arith) (λ q l t e. let c : present m q ≡ false = ap (present m) e ∙ h in let z : _≡_ {A = ℕ} 0 1 = cc in omega arith))
 
-  -- a loop that looks for position p: the cursor is at a field, or behind the last, and has the field that is looked for before it
-  pub record Seeking (p : ℕ) (c : Cursor) : Type 0 where
-    pub within : c .position ≤ 256
-    pub set : c .position < 256 → present m (c .position) ≡ true
-    pub before : bytesAt p (cutFrom rows m body c) ≡ bytesAt p (cut rows m body)
+  -- a loop that looks for position p, at position q with the rest of the body before it: the fields from there on have the one that is
+  -- looked for
+  pub record Seeking (body : List ℕ) (q : ℕ) (rest : List ℕ) : Type 0 where
+    pub within : q ≤ p
+    pub ahead : bytesAt p (cutAt rows (later m 256 q) rest) ≡ bytesAt p (cut rows m body)
 
-  pub seek-start : (p : ℕ) (c : Cursor) → c ≡ firstField m → Seeking p c
-  unfolding firstField
-  seek-start p c e =
-      let x = next-set m 0 in
-      subst (λ (d : Cursor). Seeking p d) (sym e) (record { within = x .within; set = x .set; before = ap (bytesAt p) cut-first })
+  pub seek-start : (body : List ℕ) → Seeking body 0 body
+  unfolding cut
+  seek-start body = record { within = omega arith; ahead = refl }
 
-  module _ (p : ℕ) (c : Cursor) (h : p < 256) (i : Seeking p c) where
-    pub seek-on : (d : Cursor) → d ≡ nextField m body (extentOf (rows (c .position)) (drop (c .at) body)) c → c .position < p
-        → (c .position < d .position) × Seeking p d
-    unfolding nextField
-    seek-on d e l =
-        let x = next-set m (c .position + 1) in
-        let u : c .position + 1 ≤ nextSet m (c .position + 1) = x .from (omega arith) in
-        subst (λ (k : Cursor). (c .position < k .position) × Seeking p k) (sym e) (
-          omega arith,
-          record {
-            within = x .within;
-            set = x .set;
-            before = sym (ap (bytesAt p) (cut-next c (omega arith) (i .set (omega arith))) ∙ bytes-past p _ _ (λ z. omega arith)) ∙ i .before;
-          },
-        )
+  module _ (body : List ℕ) (q : ℕ) (rest : List ℕ) (h : p < 256) (i : Seeking body q rest) where
+    -- a field that is not the one is passed, and a clear position
+    pub seek-past : q < p → present m q ≡ true → (n : ℕ) (r : List ℕ) → n ≡ extentOf (rows q) rest → r ≡ drop n rest → Seeking body (q + 1) r
+    unfolding cutAt
+    seek-past l t n r e d =
+        let f : r ≡ drop (extentOf (rows q) rest) rest = d ∙ ap (λ (k : ℕ). drop k rest) e in
+        record {
+          within = omega arith;
+          ahead = ap (λ (s : List ℕ). bytesAt p (cutAt rows (later m 256 (q + 1)) s)) f ∙ sym (ap (λ (ps : List ℕ). bytesAt p (cutAt rows ps rest)) (later-set m 256 q (omega arith) t) ∙ bytes-past p _ _ (λ e. omega arith)) ∙ i .ahead;
+        }
 
-    pub seek-found : c .position ≡ p → drop (c .at) body ≡ bytesAt p (cut rows m body)
-    seek-found q =
-        sym (ap (bytesAt p) (cut-next c (omega arith) (i .set (omega arith))) ∙ bytes-here p _ _ q) ∙ i .before
+    pub seek-over : q < p → present m q ≡ false → Seeking body (q + 1) rest
+    seek-over l t =
+        record {
+          within = omega arith;
+          ahead = sym (ap (λ (ps : List ℕ). bytesAt p (cutAt rows ps rest)) (later-clear m 256 q (omega arith) t)) ∙ i .ahead;
+        }
 
-    pub seek-none : p < c .position → [] ≡ bytesAt p (cut rows m body)
-    unfolding cutFrom
-    seek-none l = sym (none-at p (256 - c .position) (c .position) (drop (c .at) body) l) ∙ i .before
+    -- at position p its field is the first
+    pub seek-found : p ≤ q → present m p ≡ true → rest ≡ bytesAt p (cut rows m body)
+    unfolding cutAt
+    seek-found l t =
+        let e : q ≡ p = omega (arith, i .within) in
+        sym (ap (λ (ps : List ℕ). bytesAt p (cutAt rows ps rest)) (ap (later m 256) e ∙ later-set m 256 p h t) ∙ bytes-here p _ _ refl) ∙ i .ahead
 
 -- the bytes from a field on are an end of the body
 pub record End (s r : List ℕ) : Type 0 where

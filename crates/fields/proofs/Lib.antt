@@ -1,10 +1,14 @@
+pub mod BufferLaws
 pub mod CheckLaws
 pub mod CopyLaws
 pub mod CutLaws
 pub mod CutWorked
+pub mod FillLaws
+pub mod HeadLaws
 pub mod PlainLaws
 pub mod PositionLaws
 pub mod SetsLaws
+pub mod ShapeLaws
 pub mod SpanLaws
 pub mod ValueLaws
 pub mod WalkLaws

@@ -1,9 +1,9 @@
 -- The cut of a body into its fields (004 section 6.2.1: fields stand in rising position). It goes from field to field by the widths alone, over
 -- any table of rows; the checks, the values and the plain form look at its pieces.
-use Prim.Native.Nat.{ℕ, zero, suc, _+_, _-_, min}
+use Prim.Native.Nat.{ℕ, zero, suc, _+_, _-_, _^_}
 use mathlib.Core.Bool.{cond}
 use mathlib.Core.List.{List, [], _∷_, foldr}
-use lib.Dec.{eqb, ltb}
+use lib.Dec.{eqb, leb}
 use lib.ListN.{length, take, drop}
 use Rattle.tables.specs.declared.dictionary.Sort.{Sort}
 use Rattle.tables.specs.declared.dictionary.Sort.the-variants.{Number, Decimal, Byte, YesNo, Fixed, Variable}
@@ -12,8 +12,6 @@ use Rattle.tables.specs.declared.table.Row.the-variants.{Required, Optional, Un
 use Rattle.tables.specs.Dictionary.{sortOf}
 use Rattle.wire.specs.Map.{present}
 use Rattle.wire.specs.Number.{number}
-use Rattle.wire.specs.Search.{firstFrom}
-use Rattle.fields.specs.declared.cut.Cursor.{Cursor}
 
 -- the set positions of a map among the n from p on, rising
 unfoldable pub positions : List ℕ → ℕ → ℕ → List ℕ
@@ -54,17 +52,11 @@ cut rows m body = cutAt rows (positions m 256 0) body
 unfoldable pub bytesAt : ℕ → List Piece → List ℕ
 bytesAt p = foldr (λ (x : Piece) (rest : List ℕ). cond (eqb (x .position) p) (x .bytes) rest) []
 
--- the first set position from p on, and 256, which no map has, where there is none
-unfoldable pub nextSet : List ℕ → ℕ → ℕ
-nextSet m p = cond (ltb p 256) (firstFrom (present m) (256 - p) p) 256
+-- rising positions below 64 as one number, the first position in the highest bit
+unfoldable pub wordOf : List ℕ → ℕ
+wordOf [] = 0
+wordOf (p ∷ ps) = 2 ^ (63 - p) + wordOf ps
 
--- a cursor at the first field, and from a field that takes so many bytes to the next; a field that overruns the body ends it
-unfoldable pub firstField : List ℕ → Cursor
-firstField m = record { position = nextSet m 0; at = 0 }
-
-unfoldable pub nextField : List ℕ → List ℕ → ℕ → Cursor → Cursor
-nextField m body taken c = record { position = nextSet m (c .position + 1); at = min (length body) (c .at + taken) }
-
--- the fields from a cursor on
-unfoldable pub cutFrom : (ℕ → Row) → List ℕ → List ℕ → Cursor → List Piece
-cutFrom rows m body c = cutAt rows (positions m (256 - c .position) (c .position)) (drop (c .at) body)
+-- the set positions below 64 of a map that has eight bytes or more
+unfoldable pub headOf : List ℕ → ℕ
+headOf m = cond (leb 8 (length m)) (wordOf (positions m 64 0)) 0

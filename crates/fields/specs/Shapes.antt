@@ -1,32 +1,32 @@
--- What the shape of an Execution Report's position stands for: the check of the field there, and its plain form.
-use mathlib.Core.Path.{_≡_}
-use mathlib.Core.List.{List}
-use Prim.Native.Nat.{ℕ, _<_}
-use lib.ListN.{take}
-use Rattle.fields.specs.declared.check.Checked.{Checked}
-use Rattle.fields.specs.declared.check.Shape.{Shape}
-use Rattle.fields.specs.declared.check.Shape.the-variants.{Whole, Fixed, Other}
+-- The shape of a field, as a quick look at it needs: what stands for its check, its extent, its value and its plain form at once.
+use Prim.Native.Nat.{ℕ}
+use mathlib.Core.Bool.{cond}
+use lib.Dec.{eqb}
+use Rattle.tables.specs.declared.dictionary.Sort.{Sort}
+use Rattle.tables.specs.declared.dictionary.Sort.the-variants as sort
+use Rattle.tables.specs.declared.table.Row.{Row}
+use Rattle.tables.specs.declared.table.Row.the-variants.{Required, Optional, UnknownPosition, UnknownType}
+use Rattle.tables.specs.Dictionary.{sortOf}
 use Rattle.tables.specs.Tables.{rowOf}
-use Rattle.wire.specs.Text.{fixedPart, fixedBytes}
-use Rattle.fields.specs.Cut.{extentOf}
-use Rattle.fields.specs.Check.{whole, fixed, checkRow}
-use Rattle.fields.specs.Plain.{plainRow}
+use Rattle.fields.specs.declared.check.Shape.{Shape}
+use Rattle.fields.specs.declared.check.Shape.the-variants.{Number, Decimal, Fixed, Other}
 
-unfoldable pub shaped : Shape → ℕ → List ℕ → Checked
-shaped (Whole width) p s = whole width s
-shaped (Fixed width) p s = fixed width s
-shaped Other p s = checkRow (rowOf 10 p) s
+-- of a field of this sort: a byte of any value is a number
+unfoldable pub shapeIn : Sort → Shape
+shapeIn (sort.Number width) = Number width
+shapeIn sort.Decimal = Decimal
+shapeIn sort.Byte = Number 1
+shapeIn sort.YesNo = Other
+shapeIn (sort.Fixed width) = Fixed width
+shapeIn (sort.Variable size) = Other
 
-unfoldable pub plainShaped : Shape → ℕ → List ℕ → List ℕ
-plainShaped (Whole width) p s = take width s
-plainShaped (Fixed width) p s = fixedBytes width (fixedPart width s)
-plainShaped Other p s = plainRow (rowOf 10 p) s
+-- the field that a row names
+unfoldable pub shapeOf : Row → Shape
+shapeOf (Required f) = shapeIn (sortOf f)
+shapeOf (Optional f) = shapeIn (sortOf f)
+shapeOf UnknownPosition = Other
+shapeOf UnknownType = Other
 
--- the shape is that of position p
-pub record Fits (shape : Shape) (p : ℕ) : Type 0 where
-  pub fits : (s : List ℕ) → shaped shape p s ≡ checkRow (rowOf 10 p) s
-  pub plain : (s : List ℕ) → plainShaped shape p s ≡ plainRow (rowOf 10 p) s
-
--- w is the width of the field at position p of an Execution Report, or 0
-pub record Wide (w p : ℕ) : Type 0 where
-  pub wide : (s : List ℕ) → 0 < w → extentOf (rowOf 10 p) s ≡ w
+-- position p of a message of this type, where it is a report
+unfoldable pub shapeAt : ℕ → ℕ → Shape
+shapeAt kind p = cond (eqb kind 10) (shapeOf (rowOf 10 p)) Other

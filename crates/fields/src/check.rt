@@ -9,20 +9,25 @@ use wire::text::variable_text;
 ghost use mathlib.Core.Path.{_≡_};
 ghost use Rattle.tables.specs.Tables.{rowOf};
 ghost use Rattle.fields.specs.Check.{whole, yesNo, fixed, variable, checkSort, checkRow};
-ghost use Rattle.fields.specs.Shapes.{Fits};
+ghost use Rattle.fields.specs.Shapes.{shapeOf, shapeAt};
+
+// Why a field is bad: document 01 has one refusal for all.
+pub enum Reason {
+    Field,
+}
 
 // How many bytes a field takes, and how many its plain form takes; or that it overruns the bytes, is no text, or is
 // neither 'Y' nor 'N' where it must be.
 pub enum Checked {
     Good { taken: usize, plain: usize },
-    Bad,
+    Bad(Reason),
 }
 
 fn check_whole(s: &[u8], width: usize) -> Checked
     ensures { λ r. ⌜ r ≡ whole width (now (s .entry)) ⌝ }
 {
     if s.len() < width {
-        return Checked::Bad;
+        return Checked::Bad(Reason::Field);
     }
     Checked::Good {
         taken: width,
@@ -34,13 +39,13 @@ fn check_yes_no(s: &[u8]) -> Checked
     ensures { λ r. ⌜ r ≡ yesNo (now (s .entry)) ⌝ }
 {
     if s.len() == 0 {
-        return Checked::Bad;
+        return Checked::Bad(Reason::Field);
     }
     let b = s[0];
     match b {
         b'Y' => Checked::Good { taken: 1, plain: 1 },
         b'N' => Checked::Good { taken: 1, plain: 1 },
-        _ => Checked::Bad,
+        _ => Checked::Bad(Reason::Field),
     }
 }
 
@@ -55,7 +60,7 @@ fn check_fixed(s: &[u8], width: usize) -> Checked
             taken,
             plain: taken,
         },
-        Text::Bad => Checked::Bad,
+        Text::Bad => Checked::Bad(Reason::Field),
     }
 }
 
@@ -68,7 +73,7 @@ fn check_variable(s: &[u8], size: usize) -> Checked
             taken,
             plain: characters + 3,
         },
-        Text::Bad => Checked::Bad,
+        Text::Bad => Checked::Bad(Reason::Field),
     }
 }
 
@@ -93,8 +98,8 @@ pub(crate) fn check_row(kind: u8, p: usize, s: &[u8]) -> Checked
     match row_of(kind, p) {
         Row::Required(field) => check_sort(sort_of(field), s),
         Row::Optional(field) => check_sort(sort_of(field), s),
-        Row::UnknownPosition => Checked::Bad,
-        Row::UnknownType => Checked::Bad,
+        Row::UnknownPosition => Checked::Bad(Reason::Field),
+        Row::UnknownType => Checked::Bad(Reason::Field),
     }
 }
 
@@ -111,63 +116,76 @@ fn check_named(kind: u8, p: usize, s: &[u8]) -> Checked
     check_row(kind, p, s)
 }
 
-// What the check of a field needs to know where it is a number of so many bytes or a fixed text of so many.
-pub(crate) enum Shape {
-    Whole(usize),
+// What a quick look at a field needs to know: a number of so many bytes, a Decimal, or a fixed text of so many. Every other
+// field is looked up by its name.
+pub enum Shape {
+    Number(usize),
+    Decimal,
     Fixed(usize),
     Other,
 }
 
-// The shape of each position of an Execution Report in one step, as most messages of a day are reports.
-pub(crate) fn report_shape(p: usize) -> Shape
-    ensures { λ r. ⌜ Fits r p ⌝ }
+// The shape of each position of an Execution Report in one step.
+fn report_shape(p: usize) -> Shape
+    ensures { λ r. ⌜ r ≡ shapeOf (rowOf 10 p) ⌝ }
 {
     match p {
         0 => Shape::Fixed(21),
         1 => Shape::Fixed(12),
         2 => Shape::Fixed(21),
-        3 => Shape::Whole(1),
+        3 => Shape::Number(1),
         4 => Shape::Fixed(5),
         5 => Shape::Fixed(11),
         6 => Shape::Fixed(25),
-        7 => Shape::Whole(1),
+        7 => Shape::Number(1),
         8 => Shape::Fixed(21),
         9 => Shape::Fixed(21),
-        11 => Shape::Whole(1),
-        12 => Shape::Whole(8),
-        13 => Shape::Whole(8),
-        14 => Shape::Whole(1),
-        15 => Shape::Whole(1),
+        11 => Shape::Number(1),
+        12 => Shape::Decimal,
+        13 => Shape::Decimal,
+        14 => Shape::Number(1),
+        15 => Shape::Number(1),
         16 => Shape::Fixed(21),
-        17 => Shape::Whole(1),
-        18 => Shape::Whole(1),
+        17 => Shape::Number(1),
+        18 => Shape::Number(1),
         21 => Shape::Fixed(21),
-        22 => Shape::Whole(1),
-        23 => Shape::Whole(1),
-        24 => Shape::Whole(8),
-        25 => Shape::Whole(8),
-        27 => Shape::Whole(1),
-        28 => Shape::Whole(2),
-        30 => Shape::Whole(1),
+        22 => Shape::Number(1),
+        23 => Shape::Number(1),
+        24 => Shape::Decimal,
+        25 => Shape::Decimal,
+        27 => Shape::Number(1),
+        28 => Shape::Number(2),
+        30 => Shape::Number(1),
         31 => Shape::Fixed(12),
-        32 => Shape::Whole(8),
-        33 => Shape::Whole(8),
+        32 => Shape::Decimal,
+        33 => Shape::Decimal,
         34 => Shape::Fixed(21),
-        35 => Shape::Whole(1),
-        37 => Shape::Whole(1),
+        35 => Shape::Number(1),
+        37 => Shape::Number(1),
         38 => Shape::Fixed(25),
-        39 => Shape::Whole(1),
-        42 => Shape::Whole(1),
+        39 => Shape::Number(1),
+        42 => Shape::Number(1),
         43 => Shape::Fixed(10),
         _ => Shape::Other,
     }
+}
+
+// The shape of a report's field; that of another message's is not worked out, as most messages of a day are reports.
+pub fn shape_at(kind: u8, p: usize) -> Shape
+    ensures { λ r. ⌜ r ≡ shapeAt kind p ⌝ }
+{
+    if kind == 10 {
+        return report_shape(p);
+    }
+    Shape::Other
 }
 
 fn check_report(p: usize, s: &[u8]) -> Checked
     ensures { λ r. ⌜ r ≡ checkRow (rowOf 10 p) (now (s .entry)) ⌝ }
 {
     match report_shape(p) {
-        Shape::Whole(width) => check_whole(s, width),
+        Shape::Number(width) => check_whole(s, width),
+        Shape::Decimal => check_whole(s, 8),
         Shape::Fixed(width) => check_fixed(s, width),
         Shape::Other => check_other(p, s),
     }

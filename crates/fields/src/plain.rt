@@ -1,12 +1,12 @@
 // The plain form of a field, laid at the front of a lent buffer.
-use crate::check::Shape;
-use crate::check::report_shape;
 use tables::dictionary::Sort;
 use tables::dictionary::sort_of;
 use tables::table::Row;
 use tables::table::row_of;
 use wire::laying::Laid;
 use wire::laying::put_bytes;
+use wire::number::put_u64;
+use wire::number::read_eight;
 use wire::text::copy_fixed;
 use wire::text::copy_variable;
 ghost use mathlib.Core.Path.{_≡_};
@@ -51,24 +51,30 @@ fn copy_row(d: &mut [u8], kind: u8, p: usize, s: &[u8]) -> Laid
     }
 }
 
-// The same of an Execution Report, by the shape of the position.
-fn copy_report(d: &mut [u8], p: usize, s: &[u8]) -> Laid
-    ensures { λ r. ⌜ (r ≡ laidAnswer (plainRow (rowOf 10 p) (now (s .entry))) (now (d .entry))) × (now (d .exit) ≡ laid (plainRow (rowOf 10 p) (now (s .entry))) (now (d .entry))) ⌝ }
+// A number of so many bytes at the front of s, most often of one; all of s where it has no more.
+pub fn copy_number(d: &mut [u8], width: usize, s: &[u8]) -> Laid
+    ensures { λ r. ⌜ (r ≡ laidAnswer (take width (now (s .entry))) (now (d .entry))) × (now (d .exit) ≡ laid (take width (now (s .entry))) (now (d .entry))) ⌝ }
 {
-    match report_shape(p) {
-        Shape::Whole(width) => copy_front(d, width, s),
-        Shape::Fixed(width) => copy_fixed(d, width, s),
-        Shape::Other => copy_row(d, 10, p, s),
+    if width == 1 && 1 <= s.len() && 1 <= d.len() {
+        d[0] = s[0];
+        return Laid::Wrote(1);
     }
+    copy_front(d, width, s)
 }
 
-// The field at position p of a message of this type, which stands at the front of s, in plain form at the front of d.
-// Nothing is checked: a bad text is laid down as an empty one.
-pub fn copy_field(d: &mut [u8], kind: u8, p: usize, s: &[u8]) -> Laid
+// A Decimal at the front of s; all of s where it has no more.
+pub fn copy_decimal(d: &mut [u8], s: &[u8]) -> Laid
+    ensures { λ r. ⌜ (r ≡ laidAnswer (take 8 (now (s .entry))) (now (d .entry))) × (now (d .exit) ≡ laid (take 8 (now (s .entry))) (now (d .entry))) ⌝ }
+{
+    if s.len() < 8 {
+        return copy_front(d, 8, s);
+    }
+    put_u64(d, read_eight(s))
+}
+
+// The field at position p of a message of this type, by its name and the dictionary, in a frame of its own.
+pub fn copy_other(d: &mut [u8], kind: u8, p: usize, s: &[u8]) -> Laid
     ensures { λ r. ⌜ (r ≡ laidAnswer (plainRow (rowOf kind p) (now (s .entry))) (now (d .entry))) × (now (d .exit) ≡ laid (plainRow (rowOf kind p) (now (s .entry))) (now (d .entry))) ⌝ }
 {
-    if kind == 10 {
-        return copy_report(d, p, s);
-    }
     copy_row(d, kind, p, s)
 }

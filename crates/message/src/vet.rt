@@ -1,6 +1,7 @@
 // The checks that reader and writer share, in their order: 5 to 10.
 use crate::frame::Header;
 use crate::refusal::Refusal;
+use fields::check::Reason;
 use fields::sets::Place;
 use fields::sets::lowest_missing;
 use fields::sets::lowest_unknown;
@@ -11,7 +12,8 @@ ghost use mathlib.Core.Path.{_≡_};
 ghost use Prim.Native.Nat.{ℕ};
 ghost use mathlib.Core.List.{List};
 ghost use Rattle.tables.specs.Tables.{rowOf};
-ghost use Rattle.message.specs.Vet.{goodCompId, goodHeader, vetFields, vet};
+ghost use Rattle.fields.specs.declared.walk.Walked.the-variants.{BadAt};
+ghost use Rattle.message.specs.Vet.{goodCompId, goodHeader, vetWalk, vetFields, vet};
 
 // Nothing is refused, and the body's plain form has so many bytes; or the refusal.
 pub enum Vetted {
@@ -45,6 +47,15 @@ fn is_header(header: Header, named: bool) -> bool
     named
 }
 
+// The refusal of a field that is bad for this reason.
+fn bad_at(reason: Reason, p: usize) -> Vetted
+    ensures { λ r. ⌜ r ≡ vetWalk (BadAt p reason) ⌝ }
+{
+    match reason {
+        Reason::Field => Vetted::Refused(Refusal::BadField(p)),
+    }
+}
+
 // The map and the body of a message of a known type: 7 to 10.
 fn vet_fields(kind: u8, map: &[u8], body: &[u8]) -> Vetted
     ensures { λ r. ⌜ r ≡ vetFields (rowOf kind) (now (map .entry)) (now (body .entry)) ⌝ }
@@ -63,7 +74,7 @@ fn vet_fields(kind: u8, map: &[u8], body: &[u8]) -> Vetted
                 Vetted::Refused(Refusal::LeftOver(left))
             }
         }
-        Walked::BadAt(bad) => Vetted::Refused(Refusal::BadField(bad)),
+        Walked::BadAt(bad, reason) => bad_at(reason, bad),
     }
 }
 

@@ -6,23 +6,16 @@
 // The capture is read from FILE, or from standard input. comp is our Comp ID, by default that of the first message whose
 // checksum is right; expected the number expected next at its first byte, by default 1; own the number of our Logon, by
 // default 1.
-use fields::cut::extent_at;
-use fields::cut::first_field;
-use fields::cut::next_field;
-use fields::cut::rest_at;
-use fields::value::Value;
-use fields::value::text_in;
-use fields::value::value_in;
 use libc::STDERR_FILENO;
 use libc::STDIN_FILENO;
 use libc::STDOUT_FILENO;
 use message::frame::Framed;
-use message::frame::body_in;
 use message::frame::check_frame;
 use message::frame::comp_id_in;
 use message::frame::front_length;
 use message::frame::header_in;
-use message::frame::map_in;
+use message::list::Listed;
+use message::list::list_fields;
 use message::vet::is_comp_id;
 use names::put_name;
 use session::state::Row;
@@ -35,10 +28,24 @@ use spelt::put_number;
 use tables::dictionary::Field;
 use tables::table::Row as Place;
 use tables::table::row_of;
+use wire::decimal::read_decimal;
 use wire::laying::put_bytes;
 use wire::text::fixed_part;
 use wire::text::put_fixed;
 ghost use Prim.Native.Nat.{_≤_};
+
+// How many numbers the list of a message's fields has for each of them.
+const A_FIELD: usize = 5;
+
+// The sorts of fields by the list's numbers: a number, a Decimal and a text.
+const NUMBER: u64 = 1;
+
+const DECIMAL: u64 = 2;
+
+const TEXT: u64 = 3;
+
+// Room for the numbers of 64 fields; no message has more.
+const ROOM: usize = 320;
 
 // What was asked for on the command line. A Comp ID of zeros: none was given.
 struct Asked {
@@ -63,6 +70,15 @@ fn behind(buf: &[u8], n: usize) -> &[u8] {
         return &buf[..0];
     }
     &buf[n..]
+}
+
+// The bytes from `at` on, so many; none where they reach outside.
+fn part_of(s: &[u8], at: usize, count: usize) -> &[u8] {
+    let rest = behind(s, at);
+    if rest.len() < count {
+        return &rest[..0];
+    }
+    front(rest, count)
 }
 
 fn complain(text: &[u8]) {
@@ -123,49 +139,83 @@ fn say_labelled(out: &mut [u8], said: usize, label: &[u8], n: u64) -> usize {
     say_number(out, said, n)
 }
 
-fn say_value(out: &mut [u8], said: usize, value: Value, text: &[u8]) -> usize {
-    match value {
-        Value::Number(n) => say_number(out, said, n),
-        Value::Decimal(z) => say_amount(out, said, z),
-        Value::Text(_) => say(out, said, text),
-        Value::Bad => said,
-        Value::Absent => said,
-        Value::Unknown => said,
+// The value of a field of this sort, whose part of the message has a Decimal's bytes or a text's characters.
+fn say_value(out: &mut [u8], said: usize, sort: u64, value: u64, part: &[u8]) -> usize {
+    if sort == NUMBER {
+        return say_number(out, said, value);
     }
+    if sort == DECIMAL {
+        return say_amount(out, said, read_decimal(part));
+    }
+    if sort == TEXT {
+        return say(out, said, part);
+    }
+    said
 }
 
 // A line of one field: its name and its value.
-fn say_field(out: &mut [u8], said: usize, field: Field, value: Value, text: &[u8]) -> usize {
+fn say_field(
+    out: &mut [u8],
+    said: usize,
+    field: Field,
+    sort: u64,
+    value: u64,
+    part: &[u8],
+) -> usize {
     let said = say(out, said, b"  ");
     let said = say_name(out, said, field);
     let said = say(out, said, b"=");
-    let said = say_value(out, said, value, text);
+    let said = say_value(out, said, sort, value, part);
     say(out, said, b"\n")
 }
 
-// The line of position p, if the type knows it.
-fn say_place(out: &mut [u8], said: usize, kind: u8, map: &[u8], p: usize, rest: &[u8]) -> usize {
-    let value = value_in(kind, map, p, rest);
-    let text = text_in(kind, map, p, rest);
-    match row_of(kind, p) {
-        Place::Required(field) => say_field(out, said, field, value, text),
-        Place::Optional(field) => say_field(out, said, field, value, text),
+// The line of the field whose five numbers these are, if the type knows its position.
+fn say_five(out: &mut [u8], said: usize, kind: u8, five: &[u64], s: &[u8]) -> usize {
+    if five.len() < A_FIELD {
+        return said;
+    }
+    let sort = five[1];
+    let value = five[4];
+    let part = part_of(s, five[2] as usize, five[3] as usize);
+    match row_of(kind, five[0] as usize) {
+        Place::Required(field) => say_field(out, said, field, sort, value, part),
+        Place::Optional(field) => say_field(out, said, field, sort, value, part),
         Place::UnknownPosition => said,
         Place::UnknownType => said,
     }
 }
 
-// The fields of a good message, a line each, in rising position.
-fn say_fields(out: &mut [u8], said: usize, kind: u8, map: &[u8], body: &[u8]) -> usize {
+// The listed fields of the message at the front of s, so many, in rising position.
+fn say_listed(
+    out: &mut [u8],
+    said: usize,
+    kind: u8,
+    numbers: &[u64],
+    fields: usize,
+    s: &[u8],
+) -> usize {
     let mut now = said;
-    let mut cursor = first_field(map);
-    while cursor.position < 256 {
-        let rest = rest_at(body, cursor);
-        now = say_place(out, now, kind, map, cursor.position, rest);
-        let taken = extent_at(kind, cursor.position, rest);
-        cursor = next_field(map, body, cursor, taken);
+    let mut rest = numbers;
+    let mut left = fields;
+    while left > 0 && A_FIELD <= rest.len() {
+        now = say_five(out, now, kind, rest, s);
+        rest = &rest[A_FIELD..];
+        left -= 1;
     }
     now
+}
+
+// The fields of the message at the front of s, a line each; nothing where it is refused.
+fn say_fields(out: &mut [u8], said: usize, s: &[u8]) -> usize {
+    let mut numbers = [0u64; ROOM];
+    match list_fields(&mut numbers, s) {
+        Listed::Good {
+            header,
+            length: _,
+            fields,
+        } => say_listed(out, said, header.kind, &numbers, fields, s),
+        Listed::Refused(_) => said,
+    }
 }
 
 fn say_row(out: &mut [u8], said: usize, name: &[u8], first: u32, last: u32) -> usize {
@@ -230,13 +280,7 @@ fn say_step(out: &mut [u8], said: usize, at: u64, s: &[u8], stepped: Stepped) ->
 fn say_business(out: &mut [u8], said: usize, s: &[u8], row: Row) -> usize {
     match row {
         Row::Nothing => said,
-        Row::Business(_) => say_fields(
-            out,
-            said,
-            header_in(s).kind,
-            map_in(s),
-            body_in(s, front_length(s)),
-        ),
+        Row::Business(_) => say_fields(out, said, s),
         Row::Session(_) => said,
         Row::Filled(_, _) => said,
         Row::Reset(_, _) => said,

@@ -3,21 +3,14 @@ use mathlib.Core.Path.{_≡_, refl, ap, _∙_}
 use Prim.Native.Nat.{ℕ, zero, suc, _+_, _-_, _*_, _≤_, _<_}
 use native.Mathlib.Nat.{le-of-eq}
 use native.Mathlib.Omega.{arith}
-use mathlib.Core.Bool.{true}
 use mathlib.Core.List.{List}
 use lib.ListN.{length, getD, take, drop, length-drop}
-use lib.Seq.{drop-cons, take-add, take-all}
+use lib.Seq.{drop-cons, take-all}
 use Rattle.wire.specs.Number.{number}
-use Rattle.wire.specs.Text.{allCharacters}
-use Rattle.wire.proofs.TextLaws.{characters-then}
 
 -- the part `&s[i..]`
 pub rest : (s : List ℕ) (i : ℕ) → take (length s - i) (drop i s) ≡ drop i s
 rest s i = take-all (length s - i) (drop i s) (le-of-eq (length-drop i s))
-
--- n characters more
-pub more-characters : (s : List ℕ) (i n : ℕ) → allCharacters (take i s) ≡ true → allCharacters (take n (drop i s)) ≡ true → allCharacters (take (i + n) s) ≡ true
-more-characters s i n h m = ap allCharacters (take-add i n s) ∙ characters-then (take i s) (take n (drop i s)) h ∙ m
 
 -- n bytes from place i on as a number, each looked at in its place
 abbrev digits : ℕ → ℕ → List ℕ → ℕ

@@ -2,15 +2,14 @@
 -- bytes alone; and that the writer takes the characters of every text that a reader calls good.
 use mathlib.Core.Path.{_≡_, refl, sym, ap, ap₂, subst, _∙_}
 use Prim.Native.Nat.{ℕ, zero, suc, _+_, _-_, _^_, _≤_, _<_}
-use native.Mathlib.Nat.{le-of-lt}
 use native.Mathlib.Numerals.{add-one}
 use native.Mathlib.Omega.{arith}
 use mathlib.Core.Bool.{Bool, true, false, cond}
 use mathlib.Core.List.{List, [], _∷_, _++_, append-nil, append-assoc}
-use lib.Dec.{leb, ltb, eqb}
+use lib.Dec.{leb, ltb, eqb, leb·suc-suc, eqb·suc-suc, eqb·zero-suc}
 use lib.ListN.{length, getD, set, take, drop, replicate, drop-of-length-le, length-append, length-drop, length-replicate}
-use lib.Seq.{set-at, append-snoc, drop-cons, take-all, take-suc, split-at, take-at, drop-at, take-take, take-add, drop-drop, length-take-le}
-use borrow.Author.Tests.{le-leb, lt-leb, lt-ltb, ne-eqb, leb-true, ltb-true, eqb-true, eqb-false}
+use lib.Seq.{set-at, append-snoc, drop-cons, take-all, take-at, drop-at, take-take, take-add, drop-drop, length-take-le}
+use borrow.Author.Tests.{le-leb, lt-leb, lt-ltb, le-ltb, ne-eqb, leb-true, ltb-true}
 use Rattle.wire.specs.declared.laying.Laid.{Laid}
 use Rattle.wire.specs.declared.laying.Laid.the-variants.{BadText}
 use Rattle.wire.specs.declared.text.Null.{Null}
@@ -19,7 +18,7 @@ use Rattle.wire.specs.declared.text.Text.{Text}
 use Rattle.wire.specs.declared.text.Text.the-variants.{Good, Bad}
 use Rattle.wire.specs.Laying.{laid, laidAnswer}
 use Rattle.wire.specs.Number.{number, numberBytes}
-use Rattle.wire.specs.Text.{isCharacter, allCharacters, onePast, null, ended, fixedText, variableBody, variableText, charactersOf, fixedPart, variablePart, takes, fixedBytes, variableBytes}
+use Rattle.wire.specs.Text.{isCharacter, allCharacters, characters, onePast, null, ended, fixedText, variableBody, variableText, charactersOf, fixedPart, variablePart, takes, fixedBytes, variableBytes}
 use Rattle.wire.proofs.NumberLaws.{Bytes, length-numberBytes, number-numberBytes, number-take}
 
 -- two tests that passed
@@ -27,10 +26,14 @@ both : (p q : Bool) → cond p q false ≡ true → (p ≡ true) × (q ≡ true)
 both true q h = (refl, h)
 both false q h = let z : _≡_ {A = ℕ} 0 1 = cc in absurd (omega arith)
 
-character-not-null : (b : ℕ) → isCharacter b ≡ true → eqb b 0 ≡ false
+-- a character's bounds
+pub character-range : (b : ℕ) → isCharacter b ≡ true → (32 ≤ b) × (b ≤ 126)
 unfolding isCharacter
+character-range b h = let p = both (leb 32 b) (leb b 126) h in (leb-true 32 b (p .0), leb-true b 126 (p .1))
+
+character-not-null : (b : ℕ) → isCharacter b ≡ true → eqb b 0 ≡ false
 character-not-null b h =
-    let l : 32 ≤ b = leb-true 32 b (both (leb 32 b) (leb b 126) h .0) in
+    let l : 32 ≤ b = character-range b h .0 in
     ne-eqb b 0 (λ e. omega arith)
 
 -- k characters more before the null
@@ -42,19 +45,6 @@ past-at : (k : ℕ) → past k (At 0) ≡ At k
 unfolding past onePast
 past-at zero = refl
 past-at (suc k) = ap onePast (past-at k)
-
-past-nowhere : (k : ℕ) → past k Nowhere ≡ Nowhere
-unfolding past onePast
-past-nowhere zero = refl
-past-nowhere (suc k) = ap onePast (past-nowhere k)
-
--- what follows characters alone
-pub characters-then : (t r : List ℕ) → allCharacters t ≡ true → allCharacters (t ++ r) ≡ allCharacters r
-unfolding allCharacters
-characters-then [] r h = refl
-characters-then (b ∷ t) r h =
-    let p = both (isCharacter b) (allCharacters t) h in
-    rw (p .0) (characters-then t r (p .1))
 
 null-then : (t r : List ℕ) → allCharacters t ≡ true → null (t ++ r) ≡ past (length t) (null r)
 unfolding allCharacters null past
@@ -68,49 +58,120 @@ pub null-after : (t r : List ℕ) → allCharacters t ≡ true → null (t ++ 0 
 unfolding null
 null-after t r h = null-then t (0 ∷ r) h ∙ past-at (length t)
 
--- the loops over a text, where the first i bytes are characters
-module _ (s : List ℕ) (i : ℕ) (h : allCharacters (take i s) ≡ true) where
+-- the characters at the front are counted by parts: where fewer than n stand among the first n bytes, those are all
+stops-cons : (t : Bool) (a c n : ℕ) → (a < n → c ≡ a) → cond t (suc a) 0 < suc n → cond t (suc c) 0 ≡ cond t (suc a) 0
+stops-cons true a c n h l = ap suc (h (omega arith))
+stops-cons false a c n h l = refl
+
+pub count-stops : (n : ℕ) (s : List ℕ) → characters (take n s) < n → characters s ≡ characters (take n s)
+unfolding characters
+count-stops zero s l = absurd (omega arith)
+count-stops (suc n) [] l = refl
+count-stops (suc n) (b ∷ s) l = stops-cons (isCharacter b) (characters (take n s)) (characters s) n (count-stops n s) l
+
+-- and where the first n bytes are characters, the count goes on behind them
+goes-cons : (t : Bool) (a c r n : ℕ) → (a ≡ n → c ≡ n + r) → cond t (suc a) 0 ≡ suc n → cond t (suc c) 0 ≡ suc n + r
+goes-cons true a c r n h e = let f = h (omega arith) in omega arith
+goes-cons false a c r n h e = absurd (omega arith)
+
+pub count-goes : (n : ℕ) (s : List ℕ) → characters (take n s) ≡ n → characters s ≡ n + characters (drop n s)
+unfolding characters
+count-goes zero s e = omega arith
+count-goes (suc n) [] e = absurd (omega arith)
+count-goes (suc n) (b ∷ s) e =
+    goes-cons (isCharacter b) (characters (take n s)) (characters s) (characters (drop n s)) n (count-goes n s) e
+
+-- a loop over the bytes that has counted i characters: it counts one more, stops at a byte that is none, or has seen all
+module _ (s : List ℕ) (i : ℕ) (h : i + characters (drop i s) ≡ characters s) where
   module _ (l : i < length s) where
-    pub next-character : isCharacter (getD s i 0) ≡ true → allCharacters (take (i + 1) s) ≡ true
-    unfolding allCharacters
-    next-character e =
-        ap (λ (n : ℕ). allCharacters (take n s)) (add-one i) ∙ ap allCharacters (take-suc s i 0 l)
-        ∙ characters-then (take i s) (getD s i 0 ∷ []) h ∙ rw e
+    counts-here : characters (drop i s) ≡ cond (isCharacter (getD s i 0)) (suc (characters (drop (suc i) s))) 0
+    unfolding characters
+    counts-here = ap characters (drop-cons s i 0 l)
 
-    pub other-character : isCharacter (getD s i 0) ≡ false → allCharacters s ≡ false
-    unfolding allCharacters
-    other-character e =
-        ap allCharacters (split-at s i 0 l) ∙ characters-then (take i s) (getD s i 0 ∷ drop (suc i) s) h ∙ rw e
+    pub count-next : isCharacter (getD s i 0) ≡ true → (i + 1) + characters (drop (i + 1) s) ≡ characters s
+    count-next e =
+        let f : characters (drop i s) ≡ suc (characters (drop (suc i) s)) = counts-here ∙ rw e in
+        rw add-one (omega arith)
 
-    pub null-here : getD s i 0 ≡ 0 → null s ≡ At i
-    null-here e =
-        ap null (split-at s i 0 l ∙ ap (λ (b : ℕ). take i s ++ b ∷ drop (suc i) s) e)
-        ∙ null-after (take i s) (drop (suc i) s) h ∙ ap At (length-take-le i s (le-of-lt l))
+    pub count-ends : isCharacter (getD s i 0) ≡ false → i ≡ characters s
+    count-ends e =
+        let f : characters (drop i s) ≡ 0 = counts-here ∙ rw e in
+        omega arith
 
-    pub null-stopped : (getD s i 0 ≡ 0 → ⊥) → isCharacter (getD s i 0) ≡ false → null s ≡ Nowhere
-    unfolding null
-    null-stopped n e =
-        ap null (split-at s i 0 l) ∙ null-then (take i s) (getD s i 0 ∷ drop (suc i) s) h
-        ∙ ap (past (length (take i s))) (rw (ne-eqb (getD s i 0) 0 n, e)) ∙ past-nowhere (length (take i s))
+  pub count-done : length s ≤ i → i ≡ characters s
+  unfolding characters
+  count-done l =
+      let f : characters (drop i s) ≡ 0 = ap characters (drop-of-length-le s l) in
+      omega arith
 
-  module _ (l : length s ≤ i) where
-    pub only-characters : allCharacters s ≡ true
-    only-characters = ap allCharacters (sym (take-all i s l)) ∙ h
+-- all are characters where as many are counted
+all-cons : (t : Bool) (c l : ℕ) (a : Bool) → eqb c l ≡ a → eqb (cond t (suc c) 0) (suc l) ≡ cond t a false
+all-cons true c l a e = eqb·suc-suc c l ∙ e
+all-cons false c l a e = eqb·zero-suc l
 
-    pub null-missing : null s ≡ Nowhere
-    unfolding null
-    null-missing =
-        ap null (sym (append-nil s)) ∙ null-then s [] only-characters ∙ past-nowhere (length s)
+pub all-counted : (s : List ℕ) → eqb (characters s) (length s) ≡ allCharacters s
+unfolding characters allCharacters
+all-counted [] = refl
+all-counted (b ∷ s) = all-cons (isCharacter b) (characters s) (length s) (allCharacters s) (all-counted s)
 
-  -- the characters are counted: i is the whole length, or a byte that is none stands there
-  pub all-counted : i ≤ length s → (i < length s → isCharacter (getD s i 0) ≡ false) → eqb i (length s) ≡ allCharacters s
-  all-counted l o = go (eqb i (length s)) refl
-    where
-      go : (q : Bool) → eqb i (length s) ≡ q → q ≡ allCharacters s
-      go true e = sym (only-characters (omega (arith, eqb-true i (length s) e)))
-      go false e =
-          let m : i < length s = omega (arith, eqb-false i (length s) e) in
-          sym (other-character m (o m))
+-- the null at place n, if it stands there
+unfoldable nullBehind : ℕ → List ℕ → Null
+nullBehind n s = cond (ltb n (length s)) (cond (eqb (getD s n 0) 0) (At n) Nowhere) Nowhere
+
+-- one byte b in front, by the tests on it
+past-tests : (p q : Bool) (n : ℕ) → onePast (cond p (cond q (At n) Nowhere) Nowhere) ≡ cond p (cond q (At (suc n)) Nowhere) Nowhere
+unfolding onePast
+past-tests true true n = refl
+past-tests true false n = refl
+past-tests false q n = refl
+
+null-cons : (b : ℕ) (s : List ℕ) (p q : Bool) → eqb b 0 ≡ p → isCharacter b ≡ q → null s ≡ nullBehind (characters s) s
+    → cond p (At 0) (cond q (onePast (null s)) Nowhere) ≡ nullBehind (cond q (suc (characters s)) 0) (b ∷ s)
+unfolding nullBehind
+null-cons b s true true e f h =
+    let n = character-not-null b f in
+    let z : _≡_ {A = ℕ} 0 1 = cc in
+    absurd (omega arith)
+null-cons b s true false e f h = let l : 0 < suc (length s) = omega arith in rw (lt-ltb 0 (suc (length s)) l, e)
+null-cons b s false true e f h =
+    let n = characters s in
+    ap onePast h ∙ past-tests (ltb n (length s)) (eqb (getD s n 0) 0) n
+    ∙ ap (λ (p : Bool). cond p (cond (eqb (getD s n 0) 0) (At (suc n)) Nowhere) Nowhere) (sym (leb·suc-suc (suc n) (length s)))
+null-cons b s false false e f h = let l : 0 < suc (length s) = omega arith in rw (lt-ltb 0 (suc (length s)) l, e)
+
+-- the null stands right behind the characters, or nowhere
+null-behind : (s : List ℕ) → null s ≡ nullBehind (characters s) s
+unfolding null nullBehind characters
+null-behind [] = refl
+null-behind (b ∷ s) = null-cons b s (eqb b 0) (isCharacter b) refl refl (null-behind s)
+
+-- the ways of a search that has counted n characters
+module _ (s : List ℕ) (n : ℕ) (h : n ≡ characters s) where
+  null-counted : null s ≡ nullBehind n s
+  null-counted = null-behind s ∙ ap (λ (k : ℕ). nullBehind k s) (sym h)
+
+  pub null-here : n < length s → getD s n 0 ≡ 0 → null s ≡ At n
+  unfolding nullBehind
+  null-here l e = null-counted ∙ rw (lt-ltb n (length s) l, e)
+
+  pub null-stopped : n < length s → (getD s n 0 ≡ 0 → ⊥) → null s ≡ Nowhere
+  unfolding nullBehind
+  null-stopped l e = null-counted ∙ rw (lt-ltb n (length s) l, ne-eqb (getD s n 0) 0 e)
+
+  pub null-missing : length s ≤ n → null s ≡ Nowhere
+  unfolding nullBehind
+  null-missing l = null-counted ∙ rw (le-ltb n (length s) l)
+
+-- where the null was found, as many characters stand before it
+at-place : (p q : Bool) (m n : ℕ) → cond p (cond q (At m) Nowhere) Nowhere ≡ At n → m ≡ n
+at-place true true m n e = cc
+at-place true false m n e = let z : _≡_ {A = ℕ} 0 1 = cc in absurd (omega arith)
+at-place false q m n e = let z : _≡_ {A = ℕ} 0 1 = cc in absurd (omega arith)
+
+pub characters-null : (s : List ℕ) (n : ℕ) → null s ≡ At n → characters s ≡ n
+unfolding nullBehind
+characters-null s n e =
+    at-place (ltb (characters s) (length s)) (eqb (getD s (characters s) 0) 0) (characters s) n (sym (null-behind s) ∙ e)
 
 -- a null that was found: only characters stand before it
 pub record NullAt (s : List ℕ) (n : ℕ) : Type 0 where

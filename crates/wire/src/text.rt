@@ -6,13 +6,11 @@ use crate::number::put_u16;
 use crate::number::read_eight;
 use crate::number::read_u16;
 ghost use mathlib.Core.Path.{_≡_};
-ghost use Prim.Native.Nat.{_≤_, _<_};
-ghost use lib.ListN.{length, take, getD, replicate};
-ghost use mathlib.Core.Bool.{true, false};
-ghost use Rattle.wire.specs.Number.{number};
-ghost use Rattle.wire.specs.Marks.{marks};
+ghost use Prim.Native.Nat.{_/_, _≤_, _<_};
+ghost use lib.Count.{trailingZeros};
+ghost use lib.ListN.{length, take, replicate};
 ghost use Rattle.wire.specs.Laying.{laid, laidAnswer};
-ghost use Rattle.wire.specs.Text.{isCharacter, allCharacters, null, fixedText, variableText, fixedPart, variablePart, fixedBytes, variableBytes, takes, putFixed, fixedLaid, putVariable, variableLaid};
+ghost use Rattle.wire.specs.Text.{isCharacter, allCharacters, characters, null, fixedText, variableText, fixedPart, variablePart, fixedBytes, variableBytes, takes, putFixed, fixedLaid, putVariable, variableLaid};
 
 // Where a text's null stands, if only characters stand before it.
 enum Null {
@@ -32,22 +30,24 @@ fn is_character(b: u8) -> bool
     32 <= b && b <= 126
 }
 
-// The top bit of each of the first eight bytes that is no character, and no other bit. With its top bit away, a byte from
-// 127 on carries into that bit when 1 is added to it, and one from 32 on when 96 is; no sum leaves its byte.
+// A word whose lowest set bit stands in the first of the eight bytes at the front that is no character; it is 0 where all eight are
+// characters. Taking 32 from a byte below 32 borrows and leaves the top bit set, and adding 1 to a byte from 127 to 254 sets it; 255 has it
+// set after 32 is taken away. A character sets neither top bit, and neither borrows nor carries. A borrow or a carry goes upwards only: so
+// every byte up to the first that is no character is marked as it should be, and only the marks above it may be wrong.
 fn outside(s: &[u8]) -> u64
     requires { ⌜ 8 ≤ length (now s) ⌝ }
-    ensures { λ r. ⌜ r ≡ number (marks (take 8 (now (s .entry)))) ⌝ }
+    ensures { λ r. ⌜ trailingZeros 64 r / 8 ≡ characters (take 8 (now (s .entry))) ⌝ }
 {
     let word = read_eight(s);
-    let low = word & 0x7F7F7F7F7F7F7F7F;
-    let above = (low + 0x0101010101010101) | word;
-    let least = (low + 0x6060606060606060) | word;
-    (above | (least ^ 0xFFFFFFFFFFFFFFFF)) & 0x8080808080808080
+    let below = std::num::wrapping_sub_u64(word, 0x2020202020202020);
+    let above = std::num::wrapping_add_u64(word, 0x0101010101010101);
+    (below | above) & 0x8080808080808080
 }
 
-// How many characters stand at the front: eight bytes are looked at at once, and the lowest mark is the first that is none.
-fn characters_in(s: &[u8]) -> usize
-    ensures { λ r. ⌜ (r ≤ length (now (s .entry))) × (allCharacters (take r (now (s .entry))) ≡ true) × (r < length (now (s .entry)) → isCharacter (getD (now (s .entry)) r 0) ≡ false) ⌝ }
+// How many characters stand at the front. Eight bytes are looked at at once while there are as many, and the lowest mark of theirs is the
+// first byte that is no character, whatever the marks above it are; the last seven bytes at most are looked at one by one.
+pub fn characters_in(s: &[u8]) -> usize
+    ensures { λ r. ⌜ r ≡ characters (now (s .entry)) ⌝ }
 {
     let mut i = 0;
     while 8 <= s.len() - i {

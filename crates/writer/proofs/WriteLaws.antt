@@ -17,6 +17,7 @@ use Rattle.fields.specs.declared.walk.Walked.the-variants.{Done}
 use Rattle.tables.specs.Tables.{rowOf}
 use Rattle.fields.specs.Plain.{plainFields}
 use Rattle.fields.specs.Walk.{walkOf}
+use Rattle.fields.specs.Words.{ClearFrom}
 use Rattle.fields.proofs.WalkLaws.{rest-of}
 use Rattle.message.specs.declared.frame.Header.{Header}
 use Rattle.message.specs.declared.refusal.Refusal.{Refusal}
@@ -24,12 +25,12 @@ use Rattle.message.specs.declared.refusal.Refusal.the-variants.{NoRoom, TooLong
 use Rattle.message.specs.declared.vet.Vetted.{Vetted}
 use Rattle.message.specs.declared.vet.Vetted.the-variants as vetted
 use Rattle.message.specs.Vet.{goodCompId, goodHeader, vet}
-use Rattle.message.proofs.VetLaws.{passed, GoodMessage, good-vetted}
+use Rattle.message.proofs.VetLaws.{passed, good-low, GoodMessage, good-vetted}
 use Rattle.writer.specs.declared.write.Written.{Written}
 use Rattle.writer.specs.declared.write.Written.the-variants.{Wrote, Refused}
 use Rattle.writer.specs.Plain.{headBytes, sealed, messageBytes, plainMessage}
 use Rattle.writer.specs.Write.{writeLength, writeVetted, writeOf, afterWriting, written}
-use Rattle.writer.proofs.BufferLaws.{lentFrom, laid-there, take-laid, Front, front-on, laid-over}
+use Rattle.fields.proofs.BufferLaws.{lentFrom, laid-there, take-laid, Front, front-on, number-on, front-own, laid-over}
 use Rattle.writer.proofs.FieldsLaws.{fields-length}
 use Rattle.writer.proofs.HeadLaws.{length-head}
 
@@ -59,6 +60,14 @@ header-good h compId e =
       possresend = leb-true (h .possresend) 1 (c .0);
       text = f .1;
     }
+
+-- the checksum behind the first n - 4 bytes of d: y is the rest of d, which was lent
+pub sum-laid : (d y : List ℕ) (n sum : ℕ) → 4 ≤ n → n ≤ length d → sum ≡ crc32c (take (n - 4) d)
+    → y ≡ laid (numberBytes 4 sum) (take (length d - (n - 4)) (drop (n - 4) d)) → lentFrom (n - 4) d y ≡ laid (sealed (take (n - 4) d)) d
+unfolding sealed
+sum-laid d y n sum l h e q =
+    number-on (front-own (n - 4) d (omega arith)) 4 sum y (omega arith) q .is
+    ∙ ap (λ (k : ℕ). laid (take (n - 4) d ++ numberBytes 4 k) d) e
 
 -- the length of a message
 pub length-sealed : (bytes : List ℕ) → length (sealed bytes) ≡ length bytes + 4
@@ -109,6 +118,9 @@ module _ (h : Header) (compId m body d : List ℕ) where
 
     pub vetted-text : takes 12 compId ≡ true
     vetted-text = header-good h compId (vet-good .header) .text
+
+    pub vetted-low : ClearFrom 64 m
+    vetted-low = good-low (h .kind) m body plain (vet-good .fields)
 
     pub vetted-length : length (plainFields (rowOf (h .kind)) m body) ≡ plain
     vetted-length = fields-length (rowOf (h .kind)) m body 0 plain (vet-good .fields .walked)

@@ -1,15 +1,21 @@
 // The parts of a message in plain form, laid into a buffer that has room for them.
 use crc::crc32c;
+use fields::check::Shape;
+use fields::check::shape_at;
+use fields::cut::LATER;
+use fields::cut::behind;
 use fields::cut::extent_at;
-use fields::cut::first_field;
-use fields::cut::next_field;
-use fields::cut::rest_at;
-use fields::plain::copy_field;
+use fields::cut::head;
+use fields::plain::copy_decimal;
+use fields::plain::copy_number;
+use fields::plain::copy_other;
 use message::frame::Header;
-use wire::laying::put_bytes;
 use wire::number::put_u8;
 use wire::number::put_u16;
 use wire::number::put_u32;
+use wire::number::put_u64;
+use wire::number::read_eight;
+use wire::text::copy_fixed;
 use wire::text::put_fixed;
 ghost use mathlib.Core.Path.{_≡_};
 ghost use mathlib.Core.Bool.{true};
@@ -19,22 +25,48 @@ ghost use Rattle.tables.specs.Tables.{rowOf};
 ghost use Rattle.wire.specs.Laying.{laid};
 ghost use Rattle.wire.specs.Text.{takes};
 ghost use Rattle.fields.specs.Plain.{plainFields};
+ghost use Rattle.fields.specs.Words.{ClearFrom};
 ghost use Rattle.writer.specs.Plain.{headBytes, sealed};
 ghost use Rattle.writer.specs.Put.{valueBytes};
 
-// All fields of a body, each in plain form behind the last, where there is room for them.
+// All fields of a body, each in plain form behind the last, where there is room for them and no position from 64 on is set. The
+// positions still to come are a word, and the body's bytes from the next field on are `rest`.
 pub(crate) fn put_fields(d: &mut [u8], kind: u8, map: &[u8], body: &[u8])
-    requires { ⌜ length (plainFields (rowOf kind) (now map) (now body)) ≤ length (now d) ⌝ }
+    requires { ⌜ (8 ≤ length (now map)) × ClearFrom 64 (now map) × (length (plainFields (rowOf kind) (now map) (now body)) ≤ length (now d)) ⌝ }
     ensures { λ _. ⌜ now (d .exit) ≡ laid (plainFields (rowOf kind) (now (map .entry)) (now (body .entry))) (now (d .entry)) ⌝ }
 {
     let mut at: usize = 0;
-    let mut cursor = first_field(map);
-    while cursor.position < 256 {
-        let rest = rest_at(body, cursor);
-        let laid = copy_field(&mut d[at..], kind, cursor.position, rest);
-        at += laid.besides();
-        let taken = extent_at(kind, cursor.position, rest);
-        cursor = next_field(map, body, cursor, taken);
+    let mut rest = body;
+    let mut left = head(map);
+    while left != 0 {
+        let p = u64::leading_zeros(left) as usize;
+        match shape_at(kind, p) {
+            Shape::Number(width) => {
+                let laid = copy_number(&mut d[at..], width, rest);
+                at += laid.besides();
+                let next = behind(rest, width);
+                rest = next;
+            }
+            Shape::Decimal => {
+                let laid = copy_decimal(&mut d[at..], rest);
+                at += laid.besides();
+                let next = behind(rest, 8);
+                rest = next;
+            }
+            Shape::Fixed(width) => {
+                let laid = copy_fixed(&mut d[at..], width, rest);
+                at += laid.besides();
+                let next = behind(rest, width);
+                rest = next;
+            }
+            Shape::Other => {
+                let laid = copy_other(&mut d[at..], kind, p, rest);
+                at += laid.besides();
+                let next = behind(rest, extent_at(kind, p, rest));
+                rest = next;
+            }
+        }
+        left = left & (LATER >> p);
     }
 }
 
@@ -51,6 +83,17 @@ fn put_values(d: &mut [u8], n: u16, header: Header)
     put_u8(&mut d[9..], header.possresend);
 }
 
+// The map, eight bytes at a time.
+fn put_map(d: &mut [u8], map: &[u8])
+    requires { ⌜ (32 ≤ length (now d)) × (length (now map) ≡ 32) ⌝ }
+    ensures { λ _. ⌜ now (d .exit) ≡ laid (now (map .entry)) (now (d .entry)) ⌝ }
+{
+    put_u64(d, read_eight(map));
+    put_u64(&mut d[8..], read_eight(&map[8..]));
+    put_u64(&mut d[16..], read_eight(&map[16..]));
+    put_u64(&mut d[24..], read_eight(&map[24..]));
+}
+
 // The 54 bytes before the fields of a message of n bytes.
 pub(crate) fn put_head(d: &mut [u8], n: u16, header: Header, comp: &[u8], map: &[u8])
     requires { ⌜ (54 ≤ length (now d)) × (takes 12 (now comp) ≡ true) × (length (now map) ≡ 32) ⌝ }
@@ -58,7 +101,7 @@ pub(crate) fn put_head(d: &mut [u8], n: u16, header: Header, comp: &[u8], map: &
 {
     put_values(d, n, header);
     put_fixed(&mut d[10..], 12, comp);
-    put_bytes(&mut d[22..], map);
+    put_map(&mut d[22..], map);
 }
 
 // The checksum over the first n - 4 bytes, behind them.

@@ -7,8 +7,8 @@ mod proved;
 
 use std::time::Instant;
 use twin::plain;
-use twin::reader::{self, Value};
-use twin::reports::{self, Parts, Question, QUESTIONS, US};
+use twin::reader::{self, Value, A_FIELD};
+use twin::reports::{self, Parts, Question, LIST, QUESTIONS, US};
 use twin::session::{self, RowSort};
 use twin::wire::MOST;
 use twin::{crc, writer};
@@ -141,6 +141,44 @@ fn write(messages: &[Vec<u8>], times: usize) -> (Seconds, u64) {
     let mut out = [0; MOST];
     let bytes: usize = all.iter().map(|given| by_library(given, &mut out)).sum();
     (seconds, (bytes * times) as u64)
+}
+
+/// Each message is read and all its fields are listed, in one call.
+fn fields(messages: &[Vec<u8>], times: usize) -> Seconds {
+    // Where the last field begins follows from all those before it, so its
+    // numbers speak for them. Every report has fields.
+    let over = |fields: fn(&[u8], &mut [u64]) -> usize| {
+        move || {
+            let mut figure = 0u64;
+            let mut list = [0; LIST];
+            for _ in 0..times {
+                for bytes in messages {
+                    let end = A_FIELD * fields(bytes, &mut list);
+                    for number in &list[end - A_FIELD..end] {
+                        figure = figure.wrapping_mul(31).wrapping_add(*number);
+                    }
+                }
+            }
+            figure
+        }
+    };
+    let mut proved = over(|bytes, list| {
+        let answer = proved::fields(bytes, list);
+        assert_eq!(answer.reading.refusal, 0);
+        answer.fields
+    });
+    let mut twin = over(|bytes, list| {
+        let (_, fields) = reader::list(bytes, list.len()).expect("a good message");
+        for (numbers, field) in list.chunks_exact_mut(A_FIELD).zip(&fields) {
+            numbers.copy_from_slice(field);
+        }
+        fields.len()
+    });
+    let mut plain = over(|bytes, list| {
+        let (_, count) = plain::fields(bytes, list).expect("a good message");
+        count
+    });
+    rounds([Some(&mut proved), Some(&mut twin), Some(&mut plain)])
 }
 
 /// Each message is asked the eight questions, one call each.
@@ -312,6 +350,7 @@ fn main() {
 
     let read = read(&reports, times);
     let (step, bytes_a_day) = step(&reports, day);
+    let fields = fields(&reports, times);
     // Eight calls a message, so fewer times.
     let questions_times = times / 5;
     let questions = questions(&reports, questions_times);
@@ -323,6 +362,7 @@ fn main() {
     let (messages, all_bytes) = ((count * times) as u64, bytes * times as u64);
     tell("read", messages, all_bytes, &read);
     tell("step", day as u64, bytes_a_day, &step);
+    tell("fields", messages, all_bytes, &fields);
     tell(
         "questions",
         (count * questions_times) as u64,
@@ -336,6 +376,7 @@ fn main() {
     for (work, seconds) in [
         ("read", &read),
         ("step", &step),
+        ("fields", &fields),
         ("questions", &questions),
         ("write", &write),
         ("crc32c", &sums),

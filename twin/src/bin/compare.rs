@@ -6,13 +6,16 @@
 #[path = "../proved.rs"]
 mod proved;
 
-use proved::{Connected, Header, Made, Part, Planned, Reading, Row, Send, Stepped, Value, Written};
+use proved::{
+    Connected, Header, Listed, Made, Part, Planned, Reading, Row, Send, Stepped, Value, Written,
+};
 use std::fmt::{Debug, Formatter};
 use std::io::Write;
 use std::process::{exit, Command, Stdio};
 use std::time::{Duration, Instant};
 use twin::make::{self, Event, Rng};
-use twin::reader::{self, Head};
+use twin::reader::{self, Head, A_FIELD};
+use twin::reports::LIST;
 use twin::session::{self, Phase, RowSort, LAST};
 use twin::tables;
 use twin::wire::{self, Refusal, BODY_AT, MAP_WIDTH, TRAILER};
@@ -239,6 +242,20 @@ fn value(bytes: &[u8], position: usize) -> Value {
             besides,
             ..Value::default()
         },
+    }
+}
+
+/// The twin's list, laid at the front of the numbers.
+fn listed(bytes: &[u8], numbers: &mut [u64]) -> Listed {
+    let (head, fields) = match reader::list(bytes, numbers.len()) {
+        Ok((head, fields)) => (Ok(head), fields),
+        Err(refusal) => (Err(refusal), Vec::new()),
+    };
+    let laid = fields.concat();
+    numbers[..laid.len()].copy_from_slice(&laid);
+    Listed {
+        reading: reading(head),
+        fields: fields.len(),
     }
 }
 
@@ -530,6 +547,36 @@ fn rooms(rng: &mut Rng, length: usize) -> [usize; 3] {
     [length, length.saturating_sub(1), length + 1 + rng.index(80)]
 }
 
+/// All fields into a list of so many numbers: the answer, and every number of
+/// the list afterwards.
+fn hold_fields(tally: &mut Tally, bytes: &[u8], room: usize) {
+    let mut ours: Vec<u64> = (0..(GUARD + room + GUARD) as u64)
+        .map(|at| at.wrapping_mul(0x9E37_79B9_7F4A_7C15) ^ 0x5555_5555_5555_5555)
+        .collect();
+    let mut its = ours.clone();
+    let answer = listed(bytes, &mut ours[GUARD..GUARD + room]);
+    let its_answer = proved::fields(bytes, &mut its[GUARD..GUARD + room]);
+    let (twin, proved) = ((answer, ours), (its_answer, its));
+    tally.hold(answer.reading.refusal, twin, proved, || {
+        format!("fields room {} {}", room, hex(bytes))
+    });
+}
+
+/// Rooms for a message's list: exactly as many numbers as it needs, one less,
+/// more, none, and what is enough for every message. A refused message needs
+/// none.
+fn list_rooms(rng: &mut Rng, bytes: &[u8]) -> [usize; 5] {
+    let needed = reader::list(bytes, LIST).map_or(0, |(_, fields)| A_FIELD * fields.len());
+    let [exact, less, more] = rooms(rng, needed);
+    [exact, less, more, 0, LIST]
+}
+
+/// One of the rooms for a message's list.
+fn list_room(rng: &mut Rng, bytes: &[u8]) -> usize {
+    let rooms = list_rooms(rng, bytes);
+    rooms[rng.index(rooms.len())]
+}
+
 struct ToWrite {
     head: HeadValues,
     comp_id: Vec<u8>,
@@ -666,6 +713,7 @@ fn short_inputs(tally: &mut Tally, rng: &mut Rng, until: u64) {
     let sessions = small_sessions();
     let hold = |tally: &mut Tally, bytes: &[u8], turn: usize| {
         hold_read(tally, bytes);
+        hold_fields(tally, bytes, [0, LIST][turn % 2]);
         hold_step(tally, sessions[1 + turn % 2], bytes);
     };
     for session in sessions {
@@ -701,6 +749,7 @@ fn short_inputs(tally: &mut Tally, rng: &mut Rng, until: u64) {
         if rng.chance(10) {
             hold_parts(tally, &bytes);
             hold_questions(tally, &bytes, rng.index(300));
+            hold_fields(tally, &bytes, list_room(rng, &bytes));
         }
     }
 }
@@ -764,6 +813,9 @@ fn valid_messages(tally: &mut Tally, rng: &mut Rng, until: u64) {
         };
         for position in (0..=44).chain([255, 256, huge]) {
             hold_questions(tally, &bytes, position);
+        }
+        for room in list_rooms(rng, &bytes) {
+            hold_fields(tally, &bytes, room);
         }
         for room in rooms(rng, written_length(&given)) {
             hold_write(tally, &given, room);
@@ -880,8 +932,10 @@ fn damage(tally: &mut Tally, rng: &mut Rng, until: u64) {
     let both: Vec<_> = (0..11).map(|kind| short_and_long(rng, kind)).collect();
     for (short, _) in &both {
         every_damage(tally, short, false, hold_read);
+        let of_lists = list_rooms(rng, short);
         every_damage(tally, short, true, |tally, bytes| {
             hold_read(tally, bytes);
+            hold_fields(tally, bytes, of_lists[rng.index(of_lists.len())]);
             if rng.chance(5) {
                 hold_questions(tally, bytes, rng.index(45));
             }
@@ -889,7 +943,11 @@ fn damage(tally: &mut Tally, rng: &mut Rng, until: u64) {
     }
     let (_, long_report) = &both[10];
     every_damage(tally, long_report, false, hold_read);
-    every_damage(tally, long_report, true, hold_read);
+    let of_lists = list_rooms(rng, long_report);
+    every_damage(tally, long_report, true, |tally, bytes| {
+        hold_read(tally, bytes);
+        hold_fields(tally, bytes, of_lists[rng.index(of_lists.len())]);
+    });
 
     let until = tally.count() + until;
     while tally.count() < until {
@@ -902,6 +960,8 @@ fn damage(tally: &mut Tally, rng: &mut Rng, until: u64) {
         hold_parts(tally, &bytes);
         hold_questions(tally, &bytes, rng.index(45));
         hold_questions(tally, &bytes, rng.index(300));
+        hold_fields(tally, &bytes, LIST);
+        hold_fields(tally, &bytes, list_room(rng, &bytes));
         let session = session::Session {
             phase: [Phase::Waiting, Phase::Live][rng.index(2)],
             comp_id,

@@ -14,7 +14,7 @@ use steps::counted;
 use twin::make::Rng;
 use twin::plain;
 use twin::reader::{Head, Value};
-use twin::reports::{self, Question, QUESTIONS, US};
+use twin::reports::{self, Question, LIST, QUESTIONS, US};
 use twin::session::Send;
 use twin::wire::{Refusal, MOST};
 
@@ -86,6 +86,21 @@ fn step(reports: &[Vec<u8>]) -> Counts {
         assert_eq!((told.code, row.sort as u32, row.first, row.last), business);
         assert_eq!(told.sends, [Send::None; 2]);
         assert_eq!((a.expected, a.own, a.ahead), (b.e, b.o, b.m));
+    }
+    counts
+}
+
+/// Each report is read and all its fields are listed.
+fn fields(reports: &[Vec<u8>]) -> Counts {
+    let mut counts = Counts::default();
+    for bytes in reports {
+        let (mut one, mut other) = ([0; LIST], [0; LIST]);
+        let (a, b) = counts.add(
+            || proved::fields(bytes, &mut one),
+            || plain::fields(bytes, &mut other),
+        );
+        assert_eq!(head(a.reading).map(|head| (head, a.fields)), b);
+        assert_eq!(one, other);
     }
     counts
 }
@@ -185,13 +200,22 @@ fn count() {
     );
     println!();
     println!("work             proved     plain  plain/proved");
-    tell("read", read(&reports), REPORTS);
+    let read = read(&reports);
+    tell("read", read, REPORTS);
     tell("step", step(&reports), REPORTS);
+    let fields = fields(&reports);
+    tell("fields", fields, REPORTS);
     tell("questions", questions(&reports), REPORTS);
     tell("write", write(&reports), REPORTS);
     for count in SUMMED {
         tell(&format!("crc32c {}", count), sum(count), 1);
     }
+    // The library's read with a list of all fields, by its read alone.
+    println!(
+        "{:13} {:>9.2}",
+        "fields/read",
+        fields.proved as f64 / read.proved as f64,
+    );
 }
 
 fn main() {

@@ -1,18 +1,21 @@
--- `fields::cut::bytes_at` meets its contract: the fields from the cursor on have the one that is looked for, if the body has it.
-use mathlib.Core.Path.{_∙_}
-use Prim.Native.Nat.{_-_, _<_}
+-- `fields::cut::bytes_at` meets its contract: the fields from position q on have the one that is looked for.
+use mathlib.Core.Path.{sym, ap, subst, _∙_}
+use mathlib.Core.Logic.{⊎-elim}
+use Prim.Native.Nat.{_+_, _-_, _<_}
 use native.Mathlib.Omega.{arith}
 use borrow.Author.Needs.{needs}
+use borrow.Author.Tests.{not-true, not-false}
+use denote.Ref.{now}
 use Rattle.tables.specs.Tables.{rowOf}
-use Rattle.fields.proofs.CutLaws.{Seeking, took, bytes-far, seek-start, seek-on, seek-found, seek-none}
+use Rattle.fields.proofs.CutLaws.{Seeking, bytes-far, bytes-clear, seek-start, seek-past, seek-over, seek-found}
 use Rattle.fields.proofs.cut.bytes_at.Statement.{statement}
 use Rattle.fields.proofs.cut.bytes_at.Tie as tie
 
 abbrev Inv-loop : tie.InvT-loop
-Inv-loop kind map body p cursor₀ cursor = Seeking (rowOf kind) map body p cursor
+Inv-loop kind map body p rest₀ q₀ rest q = Seeking (rowOf kind) map p body q rest
 
 abbrev μ-loop : tie.MeasureT-loop
-μ-loop kind map body p cursor₀ cursor = 256 - cursor .position
+μ-loop kind map body p rest₀ q₀ rest q = p - q
 
 slice-aggregate-result : tie.Need-slice-aggregate-result Inv-loop μ-loop
 slice-aggregate-result c = search needs
@@ -20,62 +23,60 @@ slice-aggregate-result c = search needs
 returns : tie.Need-returns Inv-loop μ-loop
 returns c = bytes-far _ _ _ _ (c .before .if1 .taken)
 
-first-field-requires : tie.Need-first-field-requires Inv-loop μ-loop
-first-field-requires c κs = search needs
-
-loop-holds : tie.Need-loop-holds Inv-loop μ-loop
-loop-holds c = seek-start _ _ _ _ _ (c .first-field .ensures)
-
-rest-at-requires : tie.Need-rest-at-requires Inv-loop μ-loop
-rest-at-requires c κs = search needs
-
-extent-at-requires : tie.Need-extent-at-requires Inv-loop μ-loop
-extent-at-requires c κs = search needs
-
-next-field-requires : tie.Need-next-field-requires Inv-loop μ-loop
-next-field-requires c κs = search needs
-
-loop-less : tie.Need-loop-less Inv-loop μ-loop
-loop-less c =
-    let x = c .before in
-    let b = x .before in
-    let l = b .before .before .before in
-    let a = l .before .before .before .before .before .args in
-    let h : a .p < 256 = omega arith in
-    let n = took (rowOf (a .kind)) _ _ (l .loop .cursor) _ _ _ (b .rest-at .ensures) (x .extent-at .ensures) (c .next-field .ensures) in
-    let y = seek-on _ _ _ (a .p) (l .loop .cursor) h (l .loop .inv) _ n (b .before .if2 .taken) in
-    omega (arith, y .0, y .1 .within)
-
-loop-again : tie.Need-loop-again Inv-loop μ-loop
-loop-again c =
-    let x = c .before in
-    let b = x .before in
-    let l = b .before .before .before in
-    let a = l .before .before .before .before .before .args in
-    let h : a .p < 256 = omega arith in
-    let n = took (rowOf (a .kind)) _ _ (l .loop .cursor) _ _ _ (b .rest-at .ensures) (x .extent-at .ensures) (c .next-field .ensures) in
-    let y = seek-on _ _ _ (a .p) (l .loop .cursor) h (l .loop .inv) _ n (b .before .if2 .taken) in
-    y .1
-
-rest-at-requires-2 : tie.Need-rest-at-requires-2 Inv-loop μ-loop
-rest-at-requires-2 c κs = search needs
-
-returns-2 : tie.Need-returns-2 Inv-loop μ-loop
-returns-2 c =
-    let l = c .before .before .before .before .before in
-    let a = l .before .before .before .before .before .args in
-    let h : a .p < 256 = omega arith in
-    c .rest-at2 .ensures ∙ seek-found _ _ _ (a .p) (l .loop .cursor) h (l .loop .inv) (omega arith)
+is-present-requires : tie.Need-is-present-requires Inv-loop μ-loop
+is-present-requires c κs = search needs
 
 slice-aggregate-result-2 : tie.Need-slice-aggregate-result-2 Inv-loop μ-loop
 slice-aggregate-result-2 c = search needs
 
+returns-2 : tie.Need-returns-2 Inv-loop μ-loop
+returns-2 c =
+    let i = c .before .before in
+    bytes-clear _ _ _ _ (sym (i .is-present .ensures) ∙ not-true _ (c .before .if2 .taken))
+
+loop-holds : tie.Need-loop-holds Inv-loop μ-loop
+loop-holds c = seek-start _ _ _ _
+
+is-present-requires-2 : tie.Need-is-present-requires-2 Inv-loop μ-loop
+is-present-requires-2 c κs = search needs
+
+extent-at-requires : tie.Need-extent-at-requires Inv-loop μ-loop
+extent-at-requires c κs = search needs
+
+behind-requires : tie.Need-behind-requires Inv-loop μ-loop
+behind-requires c κs = search needs
+
+add-q : tie.Need-add-q Inv-loop μ-loop
+add-q c = search needs
+
+loop-less : tie.Need-loop-less Inv-loop μ-loop
+loop-less c = search needs
+
+loop-again : tie.Need-loop-again Inv-loop μ-loop
+loop-again c =
+    let t = c .before in
+    let l = t .before .before in
+    let a = l .before .before .before .before .before .before .args in
+    let rest = l .loop .rest .now in
+    let q = l .loop .q in
+    let h : a .p < 256 = omega arith in
+    let u : q < a .p = t .before .loop-test .taken in
+    ⊎-elim
+    (λ w.
+    seek-past (rowOf (a .kind)) _ _ _ q rest h (l .loop .inv) u (sym (t .is-present2 .ensures) ∙ w .0 .taken) (w .1 .result) (c .if3 .rest .now) (w .1 .ensures)
+    (ap now (w .3) ∙ w .2 .ensures))
+    (λ w.
+    subst (Seeking (rowOf (a .kind)) _ _ _ (q + 1)) (sym (ap now (w .1)))
+    (seek-over (rowOf (a .kind)) _ _ _ q rest h (l .loop .inv) u (sym (t .is-present2 .ensures) ∙ w .0 .left)))
+    (c .if3 .came)
+
 returns-3 : tie.Need-returns-3 Inv-loop μ-loop
 returns-3 c =
-    let l = c .before .before .before .before .before in
-    let a = l .before .before .before .before .before .args in
+    let l = c .before in
+    let i = l .before .before in
+    let a = i .before .before .before .before .args in
     let h : a .p < 256 = omega arith in
-    seek-none _ _ _ (a .p) (l .loop .cursor) h (l .loop .inv) (omega arith)
+    seek-found (rowOf (a .kind)) _ _ _ _ _ h (l .loop .inv) (c .loop-test .left) (sym (i .is-present .ensures) ∙ not-false _ (l .before .if2 .left))
 
 pub bytes-at-spec : {M : Type 1} → statement M
 bytes-at-spec =
@@ -85,14 +86,14 @@ bytes-at-spec =
     μ-loop
     slice-aggregate-result
     returns
-    first-field-requires
+    is-present-requires
+    slice-aggregate-result-2
+    returns-2
     loop-holds
-    rest-at-requires
+    is-present-requires-2
     extent-at-requires
-    next-field-requires
+    behind-requires
+    add-q
     loop-less
     loop-again
-    rest-at-requires-2
-    returns-2
-    slice-aggregate-result-2
     returns-3)

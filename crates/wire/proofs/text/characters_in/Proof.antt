@@ -1,34 +1,33 @@
--- `wire::text::characters_in` meets its contract: the bytes passed are characters, by eights and then one by one.
-use mathlib.Core.Path.{_≡_, refl, sym, _∙_}
-use Prim.Native.Nat.{_-_, _≤_}
+-- `wire::text::characters_in` meets its contract: the characters are counted by eights and then one by one.
+use mathlib.Core.Path.{_≡_, sym, _∙_}
+use Prim.Native.Nat.{_+_, _-_, _≤_}
+use native.Mathlib.Nat.{zero-add}
 use native.Mathlib.Omega.{arith}
-use mathlib.Core.Bool.{true}
 use lib.Count.{trailing-le}
-use lib.ListN.{length, take, length-drop}
+use lib.ListN.{length, drop, length-drop}
 use borrow.Author.Needs.{needs}
 use borrow.Author.Tests.{not-true, not-false}
-use Rattle.wire.specs.Text.{allCharacters}
+use Rattle.wire.specs.Text.{characters}
 use Rattle.wire.proofs.EightLaws.{rest}
 use Rattle.wire.proofs.MarkLaws.{eight-more, stops-within}
-use Rattle.wire.proofs.TextLaws.{next-character}
+use Rattle.wire.proofs.TextLaws.{count-next, count-ends, count-done}
 use Rattle.wire.proofs.text.characters_in.Statement.{statement}
 use Rattle.wire.proofs.text.characters_in.Tie as tie
 
 abbrev Inv-loop : tie.InvT-loop
-Inv-loop s i₀ i = (i ≤ length s) × (allCharacters (take i s) ≡ true)
+Inv-loop s i₀ i = (i ≤ length s) × (i + characters (drop i s) ≡ characters s)
 
 abbrev μ-loop : tie.MeasureT-loop
 μ-loop s i₀ i = length s - i
 
 abbrev Inv-loop2 : tie.InvT-loop2
-Inv-loop2 s i₀ i = (i ≤ length s) × (allCharacters (take i s) ≡ true)
+Inv-loop2 s i₀ i = (i ≤ length s) × (i + characters (drop i s) ≡ characters s)
 
 abbrev μ-loop2 : tie.MeasureT-loop2
 μ-loop2 s i₀ i = length s - i
 
 loop-holds : tie.Need-loop-holds Inv-loop μ-loop Inv-loop2 μ-loop2
-unfolding allCharacters
-loop-holds c = (search needs, refl)
+loop-holds c = (search needs, zero-add _)
 
 sub-loop : tie.Need-sub-loop Inv-loop μ-loop Inv-loop2 μ-loop2
 sub-loop c = search needs
@@ -55,7 +54,7 @@ returns : tie.Need-returns Inv-loop μ-loop Inv-loop2 μ-loop2
 returns c =
     let l = c .before .before .before .before in
     let o = c .before .outside in
-    stops-within (l .before .before .args .s .now) (l .loop .i) (o .result) (l .loop .inv .1) (omega arith) (o .ensures) (c .if1 .taken)
+    stops-within (l .before .before .args .s .now) (l .loop .i) (o .result) (l .loop .inv .1) (o .ensures) (omega arith) (c .if1 .taken)
 
 add-i : tie.Need-add-i Inv-loop μ-loop Inv-loop2 μ-loop2
 add-i c = search needs
@@ -67,7 +66,7 @@ loop-again : tie.Need-loop-again Inv-loop μ-loop Inv-loop2 μ-loop2
 loop-again c =
     let l = c .before .before .before .before in
     let o = c .before .outside in
-    (omega arith, eight-more (l .before .before .args .s .now) (l .loop .i) (o .result) (l .loop .inv .1) (omega arith) (o .ensures) (c .if1 .left))
+    (omega arith, eight-more (l .before .before .args .s .now) (l .loop .i) (o .result) (l .loop .inv .1) (o .ensures) (c .if1 .left))
 
 loop2-holds : tie.Need-loop2-holds Inv-loop μ-loop Inv-loop2 μ-loop2
 loop2-holds c = c .before .loop .inv
@@ -80,8 +79,9 @@ is-character-requires c κs = search needs
 
 returns-2 : tie.Need-returns-2 Inv-loop μ-loop Inv-loop2 μ-loop2
 returns-2 c =
-    let v = c .before .before .before .before .loop2 .inv in
-    (v .0, v .1, λ k. sym (c .before .is-character .ensures) ∙ not-true _ (c .if2 .taken))
+    let l = c .before .before .before .before in
+    count-ends (l .before .before .before .before .args .s .now) (l .loop2 .i) (l .loop2 .inv .1) (omega arith)
+    (sym (c .before .is-character .ensures) ∙ not-true _ (c .if2 .taken))
 
 add-i-2 : tie.Need-add-i-2 Inv-loop μ-loop Inv-loop2 μ-loop2
 add-i-2 c = search needs
@@ -93,12 +93,14 @@ loop2-again : tie.Need-loop2-again Inv-loop μ-loop Inv-loop2 μ-loop2
 loop2-again c =
     let l = c .before .before .before .before in (
       omega arith,
-      next-character (l .before .before .before .before .args .s .now) (l .loop2 .i) (l .loop2 .inv .1) (omega arith)
+      count-next (l .before .before .before .before .args .s .now) (l .loop2 .i) (l .loop2 .inv .1) (omega arith)
           (sym (c .before .is-character .ensures) ∙ not-false _ (c .if2 .left)),
     )
 
 returns-3 : tie.Need-returns-3 Inv-loop μ-loop Inv-loop2 μ-loop2
-returns-3 c = let v = c .before .loop2 .inv in (v .0, v .1, λ k. absurd (omega arith))
+returns-3 c =
+    let l = c .before in
+    count-done (l .before .before .before .before .args .s .now) (l .loop2 .i) (l .loop2 .inv .1) (omega arith)
 
 pub characters-in-spec : {M : Type 1} → statement M
 characters-in-spec =

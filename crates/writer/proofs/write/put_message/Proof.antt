@@ -7,7 +7,7 @@ use borrow.Author.Needs.{needs}
 use Rattle.tables.specs.Tables.{rowOf}
 use Rattle.fields.specs.Plain.{plainFields}
 use Rattle.writer.specs.Plain.{plainMessage}
-use Rattle.writer.proofs.WriteLaws.{vetted-text, vetted-length, vetted-room, message-laid, write-long, write-full, write-done}
+use Rattle.writer.proofs.WriteLaws.{vetted-text, vetted-low, vetted-length, vetted-room, message-laid, write-long, write-full, write-done}
 use Rattle.writer.proofs.write.put_message.Statement.{statement}
 use Rattle.writer.proofs.write.put_message.Tie as tie
 
@@ -44,8 +44,11 @@ part-put-fields-end c = search needs
 put-fields-requires : tie.Need-put-fields-requires
 put-fields-requires c κs =
     let a = c .before .before .before .before .before .before .before .before .before .before .before in
-    let x = c .before .before .before .put-head in
-    vetted-room (a .args .header) (a .args .comp .now) (a .args .map .now) (a .args .body .now) (a .args .d .now) (a .args .plain) (a .pre .1) (x .last .0) (omega (arith, x .kept .0))
+    let x = c .before .before .before .put-head in (
+      omega arith,
+      vetted-low (a .args .header) (a .args .comp .now) (a .args .map .now) (a .args .body .now) (a .args .d .now) (a .args .plain) (a .pre .1),
+      vetted-room (a .args .header) (a .args .comp .now) (a .args .map .now) (a .args .body .now) (a .args .d .now) (a .args .plain) (a .pre .1) (x .last .0) (omega (arith, x .kept .0)),
+    )
 
 put-sum-requires : tie.Need-put-sum-requires
 put-sum-requires c κs = search needs
