@@ -5,7 +5,7 @@
  *     day CAPTURE..        a file for each connection, the bytes as the gateway sent them
  *
  * Prints a line an account row, of each execution report the order and its filled and open shares, what would be sent, and
- * what was refused. A real recorder reads a socket in place of the files and writes what is sent to it.
+ * how each call ended. A real recorder reads a socket in place of the files and writes what is sent to it.
  */
 #include "featherloom.h"
 
@@ -81,25 +81,35 @@ static featherloom_session connect_it(featherloom_session session) {
     return connected.session;
 }
 
-/* Follows the bytes of one connection until they end or the session is Down. */
+/* Small lists, so that this day fills them: a recorder takes as many slots as a read may bring rows. */
+enum { ROWS = 4, SENDS = 2 };
+
+/* Follows the bytes of one connection, all that are there in one call, until they end or the session is Down. */
 static featherloom_session follow(featherloom_session session, const uint8_t *bytes, size_t count) {
-    static const char *const rows[] = {"none", "business", "session", "filled", "reset"};
+    static const char *const sorts[] = {"none", "business", "session", "filled", "reset"};
+    static const char *const ends[] = {"not begun", "short", "down", "no slot"};
     size_t at = 0;
-    while (session.state != FEATHERLOOM_STATE_DOWN) {
-        featherloom_stepped stepped = featherloom_step(session, bytes + at, count - at);
-        session = stepped.session;
-        if (stepped.refusal != FEATHERLOOM_SHORT || at < count)
-            printf("at=%zu refusal=%u row=%s first=%u last=%u next=%u\n", at, stepped.refusal, rows[stepped.row.kind],
-                   stepped.row.first, stepped.row.last, session.expected);
-        if (stepped.row.kind == FEATHERLOOM_ROW_BUSINESS)
-            print_report(bytes + at, count - at);
-        send_it(session, stepped.first);
-        send_it(session, stepped.second);
-        if (stepped.refusal == FEATHERLOOM_SHORT)
+    for (;;) {
+        featherloom_placed rows[ROWS];
+        featherloom_send sends[SENDS];
+        featherloom_done done = featherloom_steps(session, bytes + at, count - at, rows, ROWS, sends, SENDS);
+        session = done.session;
+        for (size_t i = 0; i < done.rows; i++) {
+            printf("at=%zu row=%s first=%u last=%u\n", at + rows[i].offset, sorts[rows[i].kind], rows[i].first, rows[i].last);
+            if (rows[i].kind == FEATHERLOOM_ROW_BUSINESS)
+                print_report(bytes + at + rows[i].offset, rows[i].length);
+        }
+        for (size_t i = 0; i < done.sends; i++)
+            send_it(session, sends[i]);
+        at += done.used;
+        printf("at=%zu refusal=%u ended=%s code=%u needed=%zu next=%u\n", at, done.refusal, ends[done.ended], done.code,
+               done.needed, session.expected);
+        if (done.ended == FEATHERLOOM_ENDED_SHORT)
             return featherloom_drop(session).session; /* no more bytes will come: the line is gone */
-        at += stepped.used;
+        if (done.ended != FEATHERLOOM_ENDED_NO_SLOT || done.refusal != FEATHERLOOM_OK)
+            return session;
+        /* The lists were full. What is left is for the next call. */
     }
-    return session;
 }
 
 /* A capture, in memory of exactly its size, so that a sanitizer sees any step past its end. */

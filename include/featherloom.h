@@ -34,7 +34,7 @@ enum {
     FEATHERLOOM_MISSING_FIELD = 8,    /* besides: the lowest required position that is clear */
     FEATHERLOOM_BAD_FIELD = 9,        /* besides: the first bad field's position */
     FEATHERLOOM_LEFT_OVER = 10,       /* bytes after the last field; besides: how many */
-    FEATHERLOOM_NO_ROOM = 11,         /* besides: the bytes, or a list's numbers, needed; of a plan, `pairs` holds the pairs */
+    FEATHERLOOM_NO_ROOM = 11,         /* besides: what is needed; of a plan it is in `pairs`, of many steps in `rows` and `sends` */
     FEATHERLOOM_TOO_LONG = 12,        /* the written message would have more than 4,096 bytes */
     FEATHERLOOM_ABSENT = 13,          /* the position asked is known, and clear */
     FEATHERLOOM_OTHER_SORT = 14,      /* a number asked of a text, or a text of a number */
@@ -339,6 +339,61 @@ featherloom_made featherloom_drop(featherloom_session session);
 /* One step on the message at the front of the bytes. */
 featherloom_stepped featherloom_step(featherloom_session session, const uint8_t *bytes, size_t count);
 
+/*
+ * Many messages in one call, for a read that brings many: the messages stand back to back, and each is stepped on in turn, as
+ * featherloom_step does. The call ends in one of three ways.
+ */
+enum {
+    FEATHERLOOM_ENDED_SHORT = 1,  /* no whole message is left: come again with more bytes */
+    FEATHERLOOM_ENDED_DOWN = 2,   /* the last step done left the session Down */
+    FEATHERLOOM_ENDED_NO_SLOT = 3 /* the next step's row or messages to send find no free slot, so it is not done */
+};
+
+/* An account row, and where in the caller's bytes its message begins and how long it is. */
+typedef struct featherloom_placed {
+    uint32_t kind; /* FEATHERLOOM_ROW_BUSINESS, .._SESSION, .._FILLED or .._RESET */
+    uint32_t first;
+    uint32_t last;
+    uint32_t offset;
+    uint32_t length;
+} featherloom_placed;
+
+/* How many numbers a row and a message to send take in their lists. */
+enum { FEATHERLOOM_A_ROW = 5, FEATHERLOOM_A_SEND = 4 };
+
+/*
+ * What was done. On a refusal (90, 20, 11) nothing is: the session is as it was, `used` is 0 and no list is written. With 20 the
+ * call has ended as Down; with 11 as having no slot, and `rows` and `sends` say how many slots are needed; with 90 `ended` is 0.
+ */
+typedef struct featherloom_done {
+    uint32_t refusal;
+    featherloom_session session;
+    size_t used;    /* bytes of the messages stepped on, each its Length; one that meets 2 or 3 counts none */
+    size_t rows;    /* rows written, at the front of their list */
+    size_t sends;   /* messages to send written, at the front of theirs, in order; none is FEATHERLOOM_SEND_NONE */
+    uint32_t ended;
+    uint32_t code;  /* ended as Down: what that step answered, 20 if the session was Down before; else 0 */
+    size_t needed;  /* ended as Short: how many bytes the message needs, counted from its first; else 0 */
+} featherloom_done;
+
+/*
+ * The lists are numbers, with room for so many: FEATHERLOOM_A_ROW for each row and FEATHERLOOM_A_SEND for each message to send,
+ * as the members of their structs stand. Refusals 90, 20; then 11 where not even one row and two messages to send fit. A step
+ * needs slots for what it gives, and no more. A message whose offset is above 4,294,967,295 finds no slot. What stands in a list
+ * behind what was written is as it was. Where no slot was left, empty the lists and call again with the new session and the bytes
+ * from `used` on. A message that stopped the session has no row and may send nothing: `ended` and `code` tell of it.
+ */
+featherloom_done featherloom_steps_flat(featherloom_session session, const uint8_t *bytes, size_t count, uint32_t *rows,
+                                        size_t row_room, uint32_t *sends, size_t send_room);
+
+/* The same over lists of structs: so many slots for rows, so many for messages to send. */
+static inline featherloom_done featherloom_steps(featherloom_session session, const uint8_t *bytes, size_t count,
+                                                 featherloom_placed *rows, size_t row_slots, featherloom_send *sends,
+                                                 size_t send_slots) {
+    return featherloom_steps_flat(session, bytes, count, (uint32_t *)rows, FEATHERLOOM_A_ROW * row_slots,
+                                  (uint32_t *)sends, FEATHERLOOM_A_SEND * send_slots);
+}
+
 /* A message to send, as bytes for the session's Comp ID; none for FEATHERLOOM_SEND_NONE. Refusals 90, 91, 6, 11. */
 featherloom_written featherloom_put(uint8_t *buffer, size_t room, featherloom_session session, featherloom_send send);
 
@@ -388,6 +443,10 @@ FEATHERLOOM_ASSERT(sizeof(featherloom_send) == 16);
 FEATHERLOOM_ASSERT(sizeof(featherloom_row) == 12);
 FEATHERLOOM_ASSERT(sizeof(featherloom_stepped) == 88);
 FEATHERLOOM_ASSERT(offsetof(featherloom_stepped, used) == 80);
+FEATHERLOOM_ASSERT(sizeof(featherloom_placed) == 4 * FEATHERLOOM_A_ROW);
+FEATHERLOOM_ASSERT(sizeof(featherloom_send) == 4 * FEATHERLOOM_A_SEND);
+FEATHERLOOM_ASSERT(sizeof(featherloom_done) == 72);
+FEATHERLOOM_ASSERT(offsetof(featherloom_done, ended) == 56);
 FEATHERLOOM_ASSERT(sizeof(featherloom_planned) == 16);
 #undef FEATHERLOOM_ASSERT
 

@@ -4,7 +4,7 @@
 //! so that texts may carry bytes after their null.
 
 use crate::crc::crc32c;
-use crate::session::{Phase, Session, LAST};
+use crate::session::{self, Phase, Session, LAST};
 use crate::tables::{self, Field, Sort};
 use crate::wire::{set, BODY_AT, COMP_ID_WIDTH, LEAST, MAP_WIDTH, MOST, START, TRAILER};
 
@@ -562,6 +562,34 @@ pub fn history(rng: &mut Rng, start: &Start, count: usize) -> Vec<Vec<u8>> {
         let bytes = arrival(rng, &session);
         session.step(&bytes);
         all.push(bytes);
+    }
+    all
+}
+
+/// Messages back to back for a session in this state, at most `count`, now and
+/// then cut short. The session is led along as in `events`. What shifts the
+/// messages behind it, or ends the session, is mostly left out: else few slices
+/// would hold more than two or three messages that are stepped on.
+pub fn slice(rng: &mut Rng, session: &Session, count: usize) -> Vec<u8> {
+    let mut session = session.clone();
+    let mut all = Vec::new();
+    for _ in 0..count {
+        let mut bytes = arrival(rng, &session);
+        let mut next = session.clone();
+        let code = next.step(&bytes).code;
+        let ends = session.phase != Phase::Down && next.phase == Phase::Down;
+        if ends && !rng.chance(20) {
+            continue;
+        }
+        let whole = session::used(code, &bytes);
+        if whole > 0 && !rng.chance(3) {
+            bytes.truncate(whole);
+        }
+        all.extend(bytes);
+        session = next;
+    }
+    if rng.chance(30) {
+        all.truncate(rng.index(all.len() + 1));
     }
     all
 }

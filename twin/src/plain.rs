@@ -3,9 +3,12 @@
 //! tables are typed anew.
 
 use crate::reader::{Head, Value};
-use crate::session::{Answer, Logon, Phase, Row, RowSort, Send, NOTHING, NO_ROW};
+use crate::session::{
+    self, Answer, Done, Ended, Logon, Phase, Row, RowSort, Send, A_ROW, A_SEND, NOTHING, NO_ROW,
+};
 use crate::wire::Refusal;
 use crate::writer::HeadValues;
+use std::slice::ChunksExactMut;
 
 // ---- CRC32C, eight bytes at a time ----
 
@@ -743,6 +746,9 @@ pub struct Session {
 
 const LAST: u32 = u32::MAX;
 
+/// The last place of a message that a list's number can tell.
+const MOST_PLACE: usize = u32::MAX as usize;
+
 impl Session {
     pub fn saved(comp_id: &[u8], e: u32, o: u32) -> Result<Session, Refusal> {
         if e == 0 || o == 0 {
@@ -760,6 +766,13 @@ impl Session {
 
     pub fn fresh(comp_id: &[u8]) -> Result<Session, Refusal> {
         Session::saved(comp_id, 1, 1)
+    }
+
+    /// The state of a session that some day has.
+    pub fn of(session: &session::Session) -> Session {
+        let session::Session { phase, e, o, m, .. } = *session;
+        let down = Session::saved(&session.comp_id, e, o).expect("a session of some day");
+        Session { phase, m, ..down }
     }
 
     pub fn connect(&mut self, password: &[u8]) -> Result<Logon, Refusal> {
@@ -792,13 +805,119 @@ impl Session {
         if self.phase == Phase::Down {
             return answer(20, 0, NO_ROW);
         }
-        let seen = match see(bytes) {
+        self.after(see(bytes), bytes)
+    }
+
+    /// Many steps in one call: the answers and the lists of
+    /// `session::Session::steps`. Each message is read once.
+    pub fn steps(&mut self, bytes: &[u8], rows: &mut [u32], sends: &mut [u32]) -> Done {
+        if self.phase == Phase::Down {
+            return Done {
+                refusal: 20,
+                used: 0,
+                rows: 0,
+                sends: 0,
+                ended: Ended::Down,
+                code: 20,
+                needed: 0,
+            };
+        }
+        if rows.len() < A_ROW || sends.len() < 2 * A_SEND {
+            return Done {
+                refusal: 11,
+                used: 0,
+                rows: 1,
+                sends: 2,
+                ended: Ended::NoSlot,
+                code: 0,
+                needed: 0,
+            };
+        }
+        let (row_slots, send_slots) = (rows.len() / A_ROW, sends.len() / A_SEND);
+        let mut free = Slots {
+            rows: rows.chunks_exact_mut(A_ROW),
+            sends: sends.chunks_exact_mut(A_SEND),
+        };
+        let mut used = 0;
+        let (ended, code, needed) = loop {
+            let rest = &bytes[used..];
+            let seen = see(rest);
+            // The common case first: business in its turn.
+            if let Ok(seen) = &seen {
+                if self.is_next_business(seen, rest) {
+                    let length = seen.head.length;
+                    match free.row(used) {
+                        Some(slot) => lay_row(slot, self.take(RowSort::Business), used, length),
+                        None => break (Ended::NoSlot, 0, 0),
+                    }
+                    used += length;
+                    continue;
+                }
+            }
+            let before = *self;
+            let answer = self.other(seen, rest);
+            if answer.code == 1 {
+                break (Ended::Short, 0, answer.besides as usize);
+            }
+            let length = match answer.code {
+                2 | 3 => 0,
+                _ => usize::from(u16_at(rest, 1)),
+            };
+            if !free.lay(&answer, used, length) {
+                *self = before;
+                break (Ended::NoSlot, 0, 0);
+            }
+            used += length;
+            if self.phase == Phase::Down {
+                break (Ended::Down, answer.code, 0);
+            }
+        };
+        Done {
+            refusal: 0,
+            used,
+            rows: row_slots - free.rows.len(),
+            sends: send_slots - free.sends.len(),
+            ended,
+            code,
+            needed,
+        }
+    }
+
+    /// What a step does that is not business in its turn, kept out of the loop
+    /// over many messages.
+    #[cold]
+    #[inline(never)]
+    fn other(&mut self, seen: Result<Opened, Refusal>, bytes: &[u8]) -> Answer {
+        self.after(seen, bytes)
+    }
+
+    /// Whether a message bears our Comp ID.
+    #[inline(always)]
+    fn is_ours(&self, seen: &Opened, bytes: &[u8]) -> bool {
+        bytes[10..10 + seen.comp_id_end] == self.comp_id[..self.comp_id_end]
+    }
+
+    /// Whether a step hands the message up and does nothing else.
+    #[inline(always)]
+    fn is_next_business(&self, seen: &Opened, bytes: &[u8]) -> bool {
+        let Head { kind, number, .. } = seen.head;
+        self.phase == Phase::Live
+            && kind >= 9
+            && number == self.e
+            && number != LAST
+            && self.is_ours(seen, bytes)
+    }
+
+    /// What a step of a session that is up does once the bytes are read.
+    #[inline(always)]
+    fn after(&mut self, seen: Result<Opened, Refusal>, bytes: &[u8]) -> Answer {
+        let seen = match seen {
             Ok(seen) => seen,
             Err(r) if r.number == 1 || r.number == 4 => return answer(r.number, r.besides, NO_ROW),
             Err(r) => return self.stop(r.number, r.besides),
         };
         let body = &bytes[54..];
-        if bytes[10..10 + seen.comp_id_end] != self.comp_id[..self.comp_id_end] {
+        if !self.is_ours(&seen, bytes) {
             return self.stop(31, 0);
         }
         let Head {
@@ -985,5 +1104,62 @@ fn answer(code: u32, besides: u32, row: Row) -> Answer {
         besides,
         row,
         ..NOTHING
+    }
+}
+
+/// A message to send as a list has it.
+#[inline]
+fn numbers(send: &Send) -> [u32; A_SEND] {
+    match *send {
+        Send::None => [0; A_SEND],
+        Send::Heartbeat { number, id } => [1, number, u32::from(id), 0],
+        Send::Logout { number } => [2, number, 0, 0],
+        Send::GapFill { first, new } => [3, first, new, 0],
+        Send::ResendRequest { number, start, end } => [4, number, start, end],
+    }
+}
+
+/// A row as a list has it, with where its message begins and how long it is.
+#[inline(always)]
+fn lay_row(slot: &mut [u32], row: Row, place: usize, length: usize) {
+    let Row { sort, first, last } = row;
+    slot.copy_from_slice(&[sort as u32, first, last, place as u32, length as u32]);
+}
+
+/// The slots of the two lists that are still free.
+struct Slots<'a> {
+    rows: ChunksExactMut<'a, u32>,
+    sends: ChunksExactMut<'a, u32>,
+}
+
+impl<'a> Slots<'a> {
+    /// The slot for the row of a message at a place.
+    #[inline(always)]
+    fn row(&mut self, place: usize) -> Option<&'a mut [u32]> {
+        if place > MOST_PLACE {
+            return None;
+        }
+        self.rows.next()
+    }
+
+    /// Lays all that a step gave. False where it does not find place, and then
+    /// nothing is laid.
+    fn lay(&mut self, answer: &Answer, place: usize, length: usize) -> bool {
+        // The messages to send stand in front.
+        let sends = answer.sends.iter().filter(|send| **send != Send::None);
+        let sends = &answer.sends[..sends.count()];
+        if place > MOST_PLACE || sends.len() > self.sends.len() {
+            return false;
+        }
+        if answer.row.sort != RowSort::None {
+            match self.rows.next() {
+                Some(slot) => lay_row(slot, answer.row, place, length),
+                None => return false,
+            }
+        }
+        for (send, slot) in sends.iter().zip(&mut self.sends) {
+            slot.copy_from_slice(&numbers(send));
+        }
+        true
     }
 }

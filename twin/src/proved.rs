@@ -4,6 +4,7 @@
 
 use std::mem::size_of;
 use std::ptr;
+use twin::session;
 use twin::writer::HeadValues;
 
 #[repr(C)]
@@ -135,6 +136,35 @@ pub struct Stepped {
 
 #[repr(C)]
 #[derive(Clone, Copy, Debug, Default, PartialEq, Eq)]
+pub struct Done {
+    pub refusal: u32,
+    pub session: Session,
+    pub used: usize,
+    pub rows: usize,
+    pub sends: usize,
+    pub ended: u32,
+    pub code: u32,
+    pub needed: usize,
+}
+
+impl Done {
+    /// What another side did, beside the session that it left.
+    pub fn of(session: Session, done: session::Done) -> Done {
+        Done {
+            refusal: done.refusal,
+            session,
+            used: done.used,
+            rows: done.rows,
+            sends: done.sends,
+            ended: done.ended as u32,
+            code: done.code,
+            needed: done.needed,
+        }
+    }
+}
+
+#[repr(C)]
+#[derive(Clone, Copy, Debug, Default, PartialEq, Eq)]
 pub struct Planned {
     pub refusal: u32,
     pub pairs: usize,
@@ -154,6 +184,7 @@ const _: () = assert!(
         && size_of::<Send>() == 16
         && size_of::<Row>() == 12
         && size_of::<Stepped>() == 88
+        && size_of::<Done>() == 72
         && size_of::<Planned>() == 16
 );
 
@@ -183,6 +214,15 @@ extern "C" {
     fn featherloom_connect(session: Session, password: *const u8, count: usize) -> Connected;
     fn featherloom_drop(session: Session) -> Made;
     fn featherloom_step(session: Session, bytes: *const u8, count: usize) -> Stepped;
+    fn featherloom_steps_flat(
+        session: Session,
+        bytes: *const u8,
+        count: usize,
+        rows: *mut u32,
+        row_room: usize,
+        sends: *mut u32,
+        send_room: usize,
+    ) -> Done;
     fn featherloom_put(buffer: *mut u8, room: usize, session: Session, send: Send) -> Written;
     fn featherloom_put_logon(
         buffer: *mut u8,
@@ -290,6 +330,20 @@ pub fn drop(session: Session) -> Made {
 
 pub fn step(session: Session, bytes: &[u8]) -> Stepped {
     unsafe { featherloom_step(session, at(bytes), bytes.len()) }
+}
+
+pub fn steps(session: Session, bytes: &[u8], rows: &mut [u32], sends: &mut [u32]) -> Done {
+    unsafe {
+        featherloom_steps_flat(
+            session,
+            at(bytes),
+            bytes.len(),
+            rows.as_mut_ptr(),
+            rows.len(),
+            sends.as_mut_ptr(),
+            sends.len(),
+        )
+    }
 }
 
 pub fn put(buffer: &mut [u8], session: Session, send: Send) -> Written {

@@ -4,8 +4,9 @@
 use crate::make::{self, Given, Rng};
 use crate::plain;
 use crate::reader;
+use crate::session::{A_ROW, A_SEND, SENDS_A_STEP};
 use crate::tables::EXECUTION_REPORTS;
-use crate::wire::{set, MAP_WIDTH};
+use crate::wire::{number, set, MAP_WIDTH};
 use crate::writer::{self, HeadValues};
 
 /// Our Comp ID.
@@ -56,6 +57,26 @@ pub fn renumber(bytes: &mut [u8], number: u32) {
     let at = bytes.len() - 4;
     let sum = plain::crc32c(&bytes[..at]).to_le_bytes();
     bytes[at..].copy_from_slice(&sum);
+}
+
+/// How many reports stand in a slice for a call with many messages, and the
+/// room of its lists: a row each, and what one step may give to send.
+pub const SLICE: usize = 30;
+pub const SLICE_ROWS: usize = SLICE * A_ROW;
+pub const SLICE_SENDS: usize = SENDS_A_STEP * A_SEND;
+
+/// Numbers messages that stand back to back from `next` on, and gives the number
+/// behind the last.
+pub fn renumber_each(bytes: &mut [u8], mut next: u32) -> u32 {
+    let mut rest = bytes;
+    while !rest.is_empty() {
+        let length = number(&rest[1..3]) as usize;
+        let (message, behind) = rest.split_at_mut(length);
+        renumber(message, next);
+        next += 1;
+        rest = behind;
+    }
+    next
 }
 
 /// The gateway's Logon, number 1, which expects our number 2.

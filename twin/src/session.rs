@@ -3,7 +3,9 @@
 
 use crate::reader::{self, Head, Value};
 use crate::tables;
-use crate::wire::{is_comp_id, refuse, Refusal, BAD_HEADER};
+use crate::wire::{
+    is_comp_id, number, refuse, Refusal, BAD_HEADER, BAD_LENGTH, BAD_START, NO_ROOM, SHORT,
+};
 use crate::writer;
 
 /// The last number there is; nothing is sent or taken under it.
@@ -53,6 +55,44 @@ impl Send {
     }
 }
 
+/// How many numbers a row takes in a list of rows, and a message to send in a
+/// list of those.
+pub const A_ROW: usize = 5;
+pub const A_SEND: usize = 4;
+
+/// Where in a row's numbers its sort, its last number and its message's place
+/// stand.
+pub const ROW_SORT: usize = 0;
+pub const ROW_LAST: usize = 2;
+pub const ROW_PLACE: usize = 3;
+
+/// No step gives more rows, nor more messages to send. Lists with fewer slots
+/// are refused, since a step might never find place in them.
+pub const ROWS_A_STEP: usize = 1;
+pub const SENDS_A_STEP: usize = 2;
+
+/// What lists call the messages to send.
+const HEARTBEAT: u32 = 1;
+const LOGOUT: u32 = 2;
+const GAP_FILL: u32 = 3;
+const RESEND_REQUEST: u32 = 4;
+
+impl Send {
+    /// The numbers of a list for the message: its kind, its own number and two
+    /// values; None where there is no message, which takes no slot.
+    pub fn numbers(&self) -> Option<[u32; A_SEND]> {
+        match *self {
+            Send::None => None,
+            Send::Heartbeat { number, id } => Some([HEARTBEAT, number, u32::from(id), 0]),
+            Send::Logout { number } => Some([LOGOUT, number, 0, 0]),
+            Send::GapFill { first, new } => Some([GAP_FILL, first, new, 0]),
+            Send::ResendRequest { number, start, end } => {
+                Some([RESEND_REQUEST, number, start, end])
+            }
+        }
+    }
+}
+
 /// Connect's Logon, as a value.
 #[derive(Clone, Debug, PartialEq, Eq)]
 pub struct Logon {
@@ -67,13 +107,14 @@ impl Logon {
     }
 }
 
+/// The numbers are what lists call the sorts.
 #[derive(Clone, Copy, Debug, PartialEq, Eq)]
 pub enum RowSort {
-    None,
-    Business,
-    Session,
-    Filled,
-    Reset,
+    None = 0,
+    Business = 1,
+    Session = 2,
+    Filled = 3,
+    Reset = 4,
 }
 
 /// An account row; the numbers are 0 where there is none.
@@ -89,6 +130,18 @@ pub const NO_ROW: Row = Row {
     first: 0,
     last: 0,
 };
+
+impl Row {
+    /// The numbers of a list for the row, whose message begins at a place of the
+    /// caller's bytes and has so many; None where there is no row, which takes no
+    /// slot.
+    pub fn numbers(&self, place: u32, length: u32) -> Option<[u32; A_ROW]> {
+        match self.sort {
+            RowSort::None => None,
+            sort => Some([sort as u32, self.first, self.last, place, length]),
+        }
+    }
+}
 
 /// What one step answers.
 #[derive(Clone, Copy, Debug, PartialEq, Eq)]
@@ -109,6 +162,60 @@ pub const NOTHING: Answer = Answer {
     sends: [Send::None; 2],
     row: NO_ROW,
 };
+
+/// How many bytes a step used that answered this code: the Length of its
+/// message. A Length that the step did not get to, or did not trust, is not told.
+pub fn used(code: u32, bytes: &[u8]) -> usize {
+    match code {
+        SHORT | BAD_START | BAD_LENGTH | DOWN => 0,
+        _ => number(&bytes[1..3]) as usize,
+    }
+}
+
+/// Why a call with many messages ended. The numbers are the C interface's.
+#[derive(Clone, Copy, Debug, PartialEq, Eq)]
+pub enum Ended {
+    /// No whole message was left.
+    Short = 1,
+    /// The last step left the session Down, or it was so before.
+    Down = 2,
+    /// The next step would find no free slot, so it was not done.
+    NoSlot = 3,
+}
+
+/// What a call with many messages answers; the lists hold the rest.
+#[derive(Clone, Copy, Debug, PartialEq, Eq)]
+pub struct Done {
+    /// 0, or 20 or 11: then nothing was done.
+    pub refusal: u32,
+    /// The bytes that the steps used.
+    pub used: usize,
+    /// The slots filled at the front of each list; for 11 those needed.
+    pub rows: usize,
+    pub sends: usize,
+    pub ended: Ended,
+    /// Ended Down: the last step's code, or 20. Else 0.
+    pub code: u32,
+    /// Ended Short: the bytes that the message needs, from its first one on. Else
+    /// 0.
+    pub needed: usize,
+}
+
+/// No step is done yet.
+const NOT_BEGUN: Done = Done {
+    refusal: 0,
+    used: 0,
+    rows: 0,
+    sends: 0,
+    ended: Ended::Short,
+    code: 0,
+    needed: 0,
+};
+
+/// Lays numbers into a list from a place on.
+fn lay(list: &mut [u32], at: usize, numbers: &[u32]) {
+    list[at..at + numbers.len()].copy_from_slice(numbers);
+}
 
 #[derive(Clone, Debug, PartialEq, Eq)]
 pub struct Session {
@@ -221,6 +328,85 @@ impl Session {
         } else {
             self.live(&head, bytes)
         }
+    }
+
+    /// One step on each of the messages that stand back to back, in turn. It ends
+    /// at the first Short, at the step that leaves the session Down, or before a
+    /// step that finds no free slot for what it gives. Each row is laid into
+    /// `rows` with the place of its message, each message to send into `sends`;
+    /// only what was laid changes there. Down is 20, then lists without room for
+    /// what one step may give are 11, each changing nothing.
+    pub fn steps(&mut self, bytes: &[u8], rows: &mut [u32], sends: &mut [u32]) -> Done {
+        if let Some(refused) = self.refuses(rows.len(), sends.len()) {
+            return refused;
+        }
+        let mut done = NOT_BEGUN;
+        loop {
+            let rest = &bytes[done.used..];
+            // The step is tried on a copy, which is kept if all finds place.
+            let mut next = self.clone();
+            let answer = next.step(rest);
+            if answer.code == SHORT {
+                return Done {
+                    ended: Ended::Short,
+                    needed: answer.besides as usize,
+                    ..done
+                };
+            }
+            let no_slot = Done {
+                ended: Ended::NoSlot,
+                ..done
+            };
+            // A list's numbers have 32 bits: a place beyond them finds no slot.
+            let place = match u32::try_from(done.used) {
+                Ok(place) => place,
+                Err(_) => return no_slot,
+            };
+            let length = used(answer.code, rest);
+            let new_row = answer.row.numbers(place, length as u32);
+            let new_rows: Vec<_> = new_row.into_iter().collect();
+            let new_sends: Vec<_> = answer.sends.iter().filter_map(Send::numbers).collect();
+            if A_ROW * (done.rows + new_rows.len()) > rows.len()
+                || A_SEND * (done.sends + new_sends.len()) > sends.len()
+            {
+                return no_slot;
+            }
+            lay(rows, A_ROW * done.rows, &new_rows.concat());
+            lay(sends, A_SEND * done.sends, &new_sends.concat());
+            *self = next;
+            done.used += length;
+            done.rows += new_rows.len();
+            done.sends += new_sends.len();
+            if self.phase == Phase::Down {
+                return Done {
+                    ended: Ended::Down,
+                    code: answer.code,
+                    ..done
+                };
+            }
+        }
+    }
+
+    /// Why many steps into lists of so many numbers cannot begin: 20, then 11.
+    fn refuses(&self, row_room: usize, send_room: usize) -> Option<Done> {
+        if self.phase == Phase::Down {
+            return Some(Done {
+                refusal: DOWN,
+                ended: Ended::Down,
+                code: DOWN,
+                ..NOT_BEGUN
+            });
+        }
+        if row_room < ROWS_A_STEP * A_ROW || send_room < SENDS_A_STEP * A_SEND {
+            return Some(Done {
+                refusal: NO_ROOM,
+                rows: ROWS_A_STEP,
+                sends: SENDS_A_STEP,
+                ended: Ended::NoSlot,
+                ..NOT_BEGUN
+            });
+        }
+        None
     }
 
     /// Rule 2, waiting for the gateway's Logon.

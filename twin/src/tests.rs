@@ -3,7 +3,10 @@ use crate::make::{self, Event, Given, Rng};
 use crate::plan::plan;
 use crate::reader::{self, Value, A_FIELD};
 use crate::reports::LIST;
-use crate::session::{Answer, Phase, Row, RowSort, Send, Session, LAST, NOTHING, NO_ROW};
+use crate::session::{
+    self, Answer, Done, Ended, Phase, Row, RowSort, Send, Session, A_ROW, A_SEND, LAST, NOTHING,
+    NO_ROW,
+};
 use crate::tables::{self, Sort};
 use crate::wire::{self, is_set, refuse, set, Refusal, LEAST, MAP_WIDTH, MOST};
 use crate::writer::{self, HeadValues};
@@ -1204,6 +1207,405 @@ fn session_live_in_turn() {
             }
         );
     }
+}
+
+// ---- Many messages in one call ----
+
+/// What stands in a list where nothing was laid.
+const UNLAID: u32 = 0xA5A5_A5A5;
+
+/// Room for more rows and messages to send than a test gives.
+const ROOMY: usize = 100;
+
+/// What a call ended with, and what stands at the front of the lists. Each test
+/// names all that was laid: the rest of both lists must be as it was.
+struct Many {
+    done: Done,
+    rows: Vec<u32>,
+    sends: Vec<u32>,
+}
+
+/// A call over lists of so many numbers. The plain side must do the same.
+fn many(session: &mut Session, bytes: &[u8], row_room: usize, send_room: usize) -> Many {
+    let mut rows = vec![UNLAID; row_room];
+    let mut sends = vec![UNLAID; send_room];
+    let (mut other_rows, mut other_sends) = (rows.clone(), sends.clone());
+    let mut other = plain::Session::of(session);
+    let before = session.clone();
+    let done = session.steps(bytes, &mut rows, &mut sends);
+    let told = other.steps(bytes, &mut other_rows, &mut other_sends);
+    assert_eq!(told, done, "{:?} {:?}", before, bytes);
+    assert_eq!((&other_rows, &other_sends), (&rows, &sends));
+    assert_eq!((other.phase, other.e, other.o, other.m), state(session));
+    Many { done, rows, sends }
+}
+
+/// The lists must hold these numbers in front, and nothing behind them.
+fn laid(many: &Many, rows: &[[u32; A_ROW]], sends: &[[u32; A_SEND]]) {
+    for (list, front) in [(&many.rows, rows.concat()), (&many.sends, sends.concat())] {
+        let (laid, behind) = list.split_at(front.len());
+        assert_eq!(laid, front);
+        assert!(behind.iter().all(|&number| number == UNLAID), "{:?}", list);
+    }
+    if many.done.refusal == 0 {
+        assert_eq!((many.done.rows, many.done.sends), (rows.len(), sends.len()));
+    }
+}
+
+/// How a call ended: used, why, the code, the bytes needed.
+fn end(done: &Done) -> (usize, Ended, u32, usize) {
+    assert_eq!(done.refusal, 0);
+    (done.used, done.ended, done.code, done.needed)
+}
+
+/// A business message behind E that says so: a step on it gives nothing.
+fn behind(n: u32) -> Vec<u8> {
+    let mut bytes = business(n);
+    bytes[8] = 1;
+    make::reseal(&mut bytes);
+    bytes
+}
+
+/// The sum spoiled: the message is dropped.
+fn bad_sum(mut bytes: Vec<u8>) -> Vec<u8> {
+    bytes[30] ^= 1;
+    bytes
+}
+
+#[test]
+fn many_until_short() {
+    let (a, b, c) = (business(3), test_request(4), gap_fill(5, 9));
+    let (to_b, to_c) = (a.len() as u32, (a.len() + b.len()) as u32);
+    let rows = [
+        [1, 3, 3, 0, to_b],
+        [2, 4, 4, to_b, b.len() as u32],
+        [3, 5, 8, to_c, c.len() as u32],
+    ];
+    let whole = [&a[..], &b, &c].concat();
+    // Nothing left, one byte, the Length not whole, the Length alone, all but one.
+    let next = business(9);
+    for (more, needed) in [(0, 3), (1, 3), (2, 3), (3, next.len()), (60, next.len())] {
+        let bytes = [&whole[..], &next[..more]].concat();
+        let mut session = live(3, 7);
+        let many = many(&mut session, &bytes, ROOMY, ROOMY);
+        assert_eq!(end(&many.done), (whole.len(), Ended::Short, 0, needed));
+        laid(&many, &rows, &[[1, 7, 0x1234, 0]]);
+        assert_eq!(state(&session), (Phase::Live, 9, 8, 0));
+    }
+    assert_eq!(next.len(), 61);
+
+    // No message at all.
+    let mut session = waiting(3, 4);
+    let many = many(&mut session, &[], A_ROW, 2 * A_SEND);
+    assert_eq!(end(&many.done), (0, Ended::Short, 0, 3));
+    laid(&many, &[], &[]);
+    assert_eq!(state(&session), (Phase::Waiting, 3, 4, 0));
+}
+
+#[test]
+fn many_until_down() {
+    // A day's begin and end in one slice: what stands behind is not looked at.
+    let (first, reset, logout) = (logon(3, 4), reset(1, 9), framed(6, 9, &[], &[]));
+    let (at, then) = (first.len() as u32, (first.len() + reset.len()) as u32);
+    let used = first.len() + reset.len() + logout.len();
+    let bytes = [&first[..], &reset, &logout, &business(10)].concat();
+    let mut session = waiting(3, 4);
+    let many_of_day = many(&mut session, &bytes, ROOMY, ROOMY);
+    assert_eq!(end(&many_of_day.done), (used, Ended::Down, 0, 0));
+    let rows = [
+        [2, 3, 3, 0, at],
+        [4, 4, 8, at, reset.len() as u32],
+        [2, 9, 9, then, logout.len() as u32],
+    ];
+    laid(&many_of_day, &rows, &[[2, 4, 0, 0]]);
+    assert_eq!(state(&session), (Phase::Down, 10, 5, 0));
+
+    // A Reject in place of the Logon: nothing is sent.
+    let reject = framed(3, 3, &[0, 4], &[0; 6]);
+    let mut session = waiting(3, 4);
+    let many = many(&mut session, &reject, ROOMY, ROOMY);
+    assert_eq!(end(&many.done), (reject.len(), Ended::Down, 0, 0));
+    laid(&many, &[[2, 3, 3, 0, reject.len() as u32]], &[]);
+    assert_eq!(state(&session), (Phase::Down, 4, 4, 0));
+}
+
+/// Every step that stops the session, and what it uses: 2 and 3 nothing, all
+/// others their Length.
+#[test]
+fn many_until_stopped() {
+    let good = business(3);
+    let row = [1, 3, 3, 0, good.len() as u32];
+    let mut foreign = business(4);
+    foreign[10] = b'X';
+    make::reseal(&mut foreign);
+    for (last, code, uses) in [
+        (vec![7], 2, false),
+        (vec![7; 80], 2, false),
+        (vec![2, 57, 0], 3, false),
+        (vec![2, 1, 16, 9], 3, false),
+        (framed(11, 4, &[], &[]), 5, true),
+        (framed(0, 0, &[], &[]), 6, true),
+        (framed(0, 4, &[40], &[]), 7, true),
+        (framed(1, 4, &[], &[]), 8, true),
+        (framed(1, 4, &[0], &[1]), 9, true),
+        (framed(0, 4, &[], &[1]), 10, true),
+        (business(2), 30, true),
+        (foreign, 31, true),
+        (logon(4, 7), 32, true),
+        (reset(4, 2), 33, true),
+        (resend(4, 0, 0), 34, true),
+    ] {
+        let bytes = [&good[..], &last].concat();
+        let used = if uses { bytes.len() } else { good.len() };
+        let mut session = live(3, 7);
+        let stopped = many(&mut session, &bytes, ROOMY, ROOMY);
+        assert_eq!(end(&stopped.done), (used, Ended::Down, code, 0));
+        laid(&stopped, &[row], &[[2, 7, 0, 0]]);
+        assert_eq!(state(&session), (Phase::Down, 4, 8, 0));
+    }
+    // 22 sends nothing.
+    let bytes = [&good[..], &test_request(4)].concat();
+    let mut session = live(3, LAST);
+    let spent = many(&mut session, &bytes, ROOMY, ROOMY);
+    assert_eq!(end(&spent.done), (bytes.len(), Ended::Down, 22, 0));
+    laid(&spent, &[row], &[]);
+    assert_eq!(state(&session), (Phase::Down, 4, LAST, 0));
+}
+
+/// 4 uses its Length and the next message is stepped on.
+#[test]
+fn many_over_a_bad_sum() {
+    let (spoiled, good) = (bad_sum(test_request(3)), business(3));
+    let bytes = [&spoiled[..], &good].concat();
+    let mut session = live(3, 7);
+    let many = many(&mut session, &bytes, ROOMY, ROOMY);
+    assert_eq!(end(&many.done), (bytes.len(), Ended::Short, 0, 3));
+    let place = spoiled.len() as u32;
+    laid(&many, &[[1, 3, 3, place, good.len() as u32]], &[]);
+    assert_eq!(state(&session), (Phase::Live, 4, 7, 0));
+}
+
+#[test]
+fn many_refused() {
+    let refused = |session: Session, row_room, send_room, done: Done| {
+        for bytes in [Vec::new(), vec![7], business(3)] {
+            let mut after = session.clone();
+            let many = many(&mut after, &bytes, row_room, send_room);
+            assert_eq!(many.done, done);
+            laid(&many, &[], &[]);
+            assert_eq!(after, session);
+        }
+    };
+    let down = Done {
+        refusal: 20,
+        used: 0,
+        rows: 0,
+        sends: 0,
+        ended: Ended::Down,
+        code: 20,
+        needed: 0,
+    };
+    let no_room = Done {
+        refusal: 11,
+        used: 0,
+        rows: 1,
+        sends: 2,
+        ended: Ended::NoSlot,
+        code: 0,
+        needed: 0,
+    };
+    // 20 comes before 11.
+    for (row_room, send_room) in [(0, 0), (4, 8), (5, 7), (5, 8), (ROOMY, ROOMY)] {
+        refused(Session::saved(US, 3, 4).unwrap(), row_room, send_room, down);
+    }
+    for session in [waiting(3, 4), live(3, 4)] {
+        for row_room in 0..A_ROW {
+            refused(session.clone(), row_room, ROOMY, no_room);
+        }
+        for send_room in 0..2 * A_SEND {
+            refused(session.clone(), ROOMY, send_room, no_room);
+        }
+        refused(session, A_ROW - 1, 2 * A_SEND - 1, no_room);
+    }
+    // One row and two messages to send are enough.
+    let good = business(3);
+    let mut session = live(3, 4);
+    let many = many(&mut session, &good, A_ROW, 2 * A_SEND);
+    assert_eq!(end(&many.done), (good.len(), Ended::Short, 0, 3));
+    laid(&many, &[[1, 3, 3, 0, good.len() as u32]], &[]);
+}
+
+#[test]
+fn many_without_a_row_slot() {
+    let good = business(3);
+    let length = good.len();
+    let bytes = [&good[..], &business(4), &business(5)].concat();
+    let row = |n, place: usize| [1, n, n, place as u32, length as u32];
+    // Numbers that make no whole slot hold no row.
+    for row_room in 2 * A_ROW..3 * A_ROW {
+        let mut session = live(3, 7);
+        let full = many(&mut session, &bytes, row_room, ROOMY);
+        assert_eq!(end(&full.done), (2 * length, Ended::NoSlot, 0, 0));
+        laid(&full, &[row(3, 0), row(4, length)], &[]);
+        assert_eq!(state(&session), (Phase::Live, 5, 7, 0));
+        // The call again, with the bytes from there on and the lists emptied.
+        let rest = many(&mut session, &bytes[2 * length..], row_room, ROOMY);
+        assert_eq!(end(&rest.done), (length, Ended::Short, 0, 3));
+        laid(&rest, &[row(5, 0)], &[]);
+    }
+    // A step with a row and a message to send is done whole or not at all.
+    let bytes = [&good[..], &test_request(4)].concat();
+    let mut session = live(3, 7);
+    let full = many(&mut session, &bytes, A_ROW, ROOMY);
+    assert_eq!(end(&full.done), (length, Ended::NoSlot, 0, 0));
+    laid(&full, &[row(3, 0)], &[]);
+    assert_eq!(state(&session), (Phase::Live, 4, 7, 0));
+    // A Logout as well: the session is not Down yet.
+    let bytes = [&good[..], &framed(6, 4, &[], &[])].concat();
+    let mut session = live(3, 7);
+    let full = many(&mut session, &bytes, A_ROW, ROOMY);
+    assert_eq!(end(&full.done), (length, Ended::NoSlot, 0, 0));
+    assert_eq!(state(&session), (Phase::Live, 4, 7, 0));
+}
+
+#[test]
+fn many_without_a_send_slot() {
+    // One message to send, then two of one step: a Resend Request ahead of E.
+    let (first, ahead) = (test_request(3), resend(6, 2, 4));
+    let bytes = [&first[..], &ahead].concat();
+    let row = [2, 3, 3, 0, first.len() as u32];
+    let heartbeat = [1, 9, 0x1234, 0];
+    for send_room in 2 * A_SEND..3 * A_SEND {
+        let mut session = live(3, 9);
+        let full = many(&mut session, &bytes, ROOMY, send_room);
+        assert_eq!(end(&full.done), (first.len(), Ended::NoSlot, 0, 0));
+        laid(&full, &[row], &[heartbeat]);
+        assert_eq!(state(&session), (Phase::Live, 4, 10, 0));
+    }
+    let mut session = live(3, 9);
+    let fits = many(&mut session, &bytes, A_ROW, 3 * A_SEND);
+    assert_eq!(end(&fits.done), (bytes.len(), Ended::Short, 0, 3));
+    laid(&fits, &[row], &[heartbeat, [3, 2, 5, 0], [4, 10, 4, 0]]);
+    assert_eq!(state(&session), (Phase::Live, 4, 11, 6));
+
+    // A single message to send needs a single slot, and Stop's Logout one too.
+    let bytes = [test_request(3), test_request(4), business(1)].concat();
+    let mut session = live(3, 9);
+    let full = many(&mut session, &bytes, ROOMY, 2 * A_SEND);
+    let used = 2 * first.len();
+    assert_eq!(end(&full.done), (used, Ended::NoSlot, 0, 0));
+    assert_eq!((full.done.rows, full.done.sends), (2, 2));
+    assert_eq!(state(&session), (Phase::Live, 5, 11, 0));
+    // The bad start too is found no slot for, and not used.
+    let bytes = [&bytes[..used], &[7]].concat();
+    let mut session = live(3, 9);
+    let full = many(&mut session, &bytes, ROOMY, 2 * A_SEND);
+    assert_eq!(end(&full.done), (used, Ended::NoSlot, 0, 0));
+    // Where our numbers are used up the Logout needs no slot: it is not sent.
+    let mut session = live(3, LAST - 2);
+    let stopped = many(&mut session, &bytes, ROOMY, 2 * A_SEND);
+    assert_eq!(end(&stopped.done), (used, Ended::Down, 2, 0));
+    assert_eq!(state(&session), (Phase::Down, 5, LAST, 0));
+}
+
+/// A step needs slots for what it gives, and no more.
+#[test]
+fn many_go_on_in_full_lists() {
+    let good = business(3);
+    let full = [
+        good.clone(),
+        behind(2),
+        bad_sum(business(4)),
+        reset(1, 4),
+        business(6),
+        behind(3),
+        business(7),
+    ]
+    .concat();
+    let row = [1, 3, 3, 0, good.len() as u32];
+    let asked = [4, 7, 4, 0];
+    let mut session = live(3, 7);
+    let short = many(&mut session, &full, A_ROW, 2 * A_SEND);
+    assert_eq!(end(&short.done), (full.len(), Ended::Short, 0, 3));
+    laid(&short, &[row], &[asked]);
+    assert_eq!(state(&session), (Phase::Live, 4, 8, 6));
+
+    // Short is seen before the missing slot.
+    let next = business(4);
+    let bytes = [&full[..], &next[..next.len() - 1]].concat();
+    let mut session = live(3, 7);
+    let short = many(&mut session, &bytes, A_ROW, 2 * A_SEND);
+    let needed = next.len();
+    assert_eq!(end(&short.done), (full.len(), Ended::Short, 0, needed));
+    let bytes = [&full[..], &next].concat();
+    let mut session = live(3, 7);
+    let no_slot = many(&mut session, &bytes, A_ROW, 2 * A_SEND);
+    assert_eq!(end(&no_slot.done), (full.len(), Ended::NoSlot, 0, 0));
+    laid(&no_slot, &[row], &[asked]);
+
+    // Stop gives no row, and its Logout finds the second slot.
+    let bytes = [&full[..], &business(3)].concat();
+    let mut session = live(3, 7);
+    let stopped = many(&mut session, &bytes, A_ROW, 2 * A_SEND);
+    assert_eq!(end(&stopped.done), (bytes.len(), Ended::Down, 30, 0));
+    laid(&stopped, &[row], &[asked, [2, 8, 0, 0]]);
+}
+
+/// The steps one by one, each on the bytes behind what the last one used, must
+/// give what a call with roomy lists gives.
+#[test]
+fn many_as_single_steps() {
+    let mut rng = Rng::new(9);
+    let mut endings = [0u32; 4];
+    let mut steps = 0;
+    for _ in 0..3_000 {
+        let start = make::start(&mut rng);
+        let mut session = Session::saved(&start.comp_id, start.e, start.o).unwrap();
+        let _ = session.connect(b"");
+        while session.phase != Phase::Down {
+            let bytes = make::slice(&mut rng, &session, 8);
+            let mut single = session.clone();
+            let [row_room, send_room] = if rng.chance(50) {
+                [ROOMY; 2]
+            } else {
+                [A_ROW + rng.index(20), 2 * A_SEND + rng.index(16)]
+            };
+            let many = many(&mut session, &bytes, row_room, send_room);
+            endings[many.done.ended as usize] += 1;
+            let (mut rows, mut sends) = (Vec::new(), Vec::new());
+            let (mut used, mut code) = (0, 0);
+            while used < many.done.used {
+                let answer = single.step(&bytes[used..]);
+                code = answer.code;
+                let length = session::used(code, &bytes[used..]);
+                rows.extend(answer.row.numbers(used as u32, length as u32));
+                sends.extend(answer.sends.iter().filter_map(Send::numbers));
+                used += length;
+                steps += 1;
+            }
+            if many.done.ended == Ended::Down && single.phase != Phase::Down {
+                // The step that stopped the session used nothing: 2 or 3.
+                let answer = single.step(&bytes[used..]);
+                code = answer.code;
+                assert!(code == 2 || code == 3);
+                sends.extend(answer.sends.iter().filter_map(Send::numbers));
+            }
+            laid(&many, &rows, &sends);
+            assert_eq!(single, session);
+            if many.done.ended == Ended::Down {
+                assert_eq!(many.done.code, code);
+            }
+            if rng.chance(20) {
+                break;
+            }
+        }
+    }
+    assert!(
+        endings[1..].iter().all(|&count| count > 100),
+        "{:?}",
+        endings
+    );
+    assert!(steps > 3_000 * 5, "{}", steps);
 }
 
 // ---- Random input; plain against reader, writer and session ----

@@ -1,5 +1,6 @@
 // The session by value: checked on every call, and handed back as it was where no day has such a session.
 use crate::shape::CConnected;
+use crate::shape::CDone;
 use crate::shape::CMade;
 use crate::shape::CRow;
 use crate::shape::CSend;
@@ -9,8 +10,8 @@ use crate::shape::CWritten;
 use crate::write::written_shown;
 use crate::write::wrote;
 use message::frame::front_length;
-use session::arrival::arrival_of;
-use session::arrival::is_in_turn;
+use message::read::read;
+use session::arrival::arrival_by;
 use session::day::Connected;
 use session::day::Made;
 use session::state::Row;
@@ -19,6 +20,12 @@ use session::state::Session;
 use session::state::State;
 use session::state::Stepped;
 use session::state::ahead_at;
+use session::state::first_of;
+use session::state::last_of;
+use session::state::sort_number;
+use session::state::told;
+use session::steps::Done;
+use session::steps::Ended;
 use wire::text::fixed_part;
 use writer::send::put_gap_fill;
 use writer::send::put_heartbeat_for;
@@ -27,12 +34,13 @@ use writer::send::put_logout;
 use writer::send::put_resend_request;
 ghost use mathlib.Core.Path.{_≡_};
 ghost use Prim.Native.Nat.{_+_, _<_};
+ghost use lib.ListN.{length};
 ghost use Rattle.message.specs.Frame.{frontLength};
 ghost use Rattle.session.specs.declared.state.Row.the-variants.{Business};
 ghost use Rattle.session.specs.declared.state.Send.the-variants.{Nothing};
-ghost use Rattle.session.specs.Arrival.{arrivalOf};
-ghost use Rattle.session.specs.Day.{arrived};
+ghost use Rattle.session.specs.Day.{step};
 ghost use Rattle.session.specs.State.{take};
+ghost use Rattle.capi.specs.Steps.{endedNumber, endedCode, endedNeeds, shownDone, stepsC, rowsC, sendsC};
 ghost use Rattle.capi.specs.Sessions.{stateNumber, stateAt, shownSession, sessionIn, allZero, isPlainCompId, leastOwn, isAhead, isSession, made, shownMade, freshC, savedC, shownConnected, connectC, dropC, toSend, shownSend, shownRow, shownStepped, notStepped, usedBy, stepC, sendBy, sentBy, sendC, sentC, logonC, logonSentC};
 
 // No day has such a session.
@@ -235,44 +243,17 @@ fn to_send(kind: u32, number: u32, first: u32, second: u32) -> CSend
 fn send_shown(x: Send) -> CSend
     ensures { λ r. ⌜ r ≡ shownSend x ⌝ }
 {
-    match x {
-        Send::Nothing => to_send(0, 0, 0, 0),
-        Send::Heartbeat(n, id) => to_send(1, n, id as u32, 0),
-        Send::Logout(n) => to_send(2, n, 0, 0),
-        Send::GapFill(n, new) => to_send(3, n, new, 0),
-        Send::ResendRequest(n, start, end) => to_send(4, n, start, end),
-    }
+    let t = told(x);
+    to_send(t.kind, t.number, t.first, t.second)
 }
 
 fn row_shown(row: Row) -> CRow
     ensures { λ r. ⌜ r ≡ shownRow row ⌝ }
 {
-    match row {
-        Row::Nothing => CRow {
-            kind: 0,
-            first: 0,
-            last: 0,
-        },
-        Row::Business(n) => CRow {
-            kind: 1,
-            first: n,
-            last: n,
-        },
-        Row::Session(n) => CRow {
-            kind: 2,
-            first: n,
-            last: n,
-        },
-        Row::Filled(first, last) => CRow {
-            kind: 3,
-            first,
-            last,
-        },
-        Row::Reset(first, last) => CRow {
-            kind: 4,
-            first,
-            last,
-        },
+    CRow {
+        kind: sort_number(row),
+        first: first_of(row),
+        last: last_of(row),
     }
 }
 
@@ -348,14 +329,19 @@ fn in_turn(c: CSession, used: usize) -> CStepped
 // one answer in memory.
 fn live_step(c: CSession, s: &[u8]) -> CStepped
     requires { ⌜ c .state ≡ 2 ⌝ }
-    ensures { λ r. ⌜ r ≡ shownStepped (frontLength (now (s .entry))) (arrived (sessionIn c) (arrivalOf (c .ours) (now (s .entry)))) ⌝ }
+    ensures { λ r. ⌜ r ≡ shownStepped (frontLength (now (s .entry))) (step (sessionIn c) (now (s .entry))) ⌝ }
 {
     let ours = c.ours;
-    let arrival = arrival_of(&ours, s);
-    if is_in_turn(arrival, c.expected) {
-        return in_turn(c, front_length(s));
+    let session = session_in(c);
+    let reading = read(s);
+    let size = session.due_length(s, reading);
+    if size != 0 {
+        return in_turn(c, size);
     }
-    stepped_shown(session_in(c).arrived(arrival), front_length(s))
+    stepped_shown(
+        session.arrived(arrival_by(&ours, s, reading)),
+        front_length(s),
+    )
 }
 
 // One step on the message at the front of s.
@@ -369,6 +355,72 @@ pub fn step_c(c: CSession, s: &[u8]) -> CStepped
         return live_step(c, s);
     }
     stepped_shown(session_in(c).step(s), used_by(c.state, s))
+}
+
+fn ended_number(ended: Ended) -> u32
+    ensures { λ r. ⌜ r ≡ endedNumber ended ⌝ }
+{
+    match ended {
+        Ended::Short(_) => 1,
+        Ended::Down(_) => 2,
+        Ended::NoSlot => 3,
+    }
+}
+
+fn ended_code(ended: Ended) -> u32
+    ensures { λ r. ⌜ r ≡ endedCode ended ⌝ }
+{
+    match ended {
+        Ended::Short(_) => 0,
+        Ended::Down(code) => code,
+        Ended::NoSlot => 0,
+    }
+}
+
+fn ended_needs(ended: Ended) -> usize
+    ensures { λ r. ⌜ r ≡ endedNeeds ended ⌝ }
+{
+    match ended {
+        Ended::Short(n) => n,
+        Ended::Down(_) => 0,
+        Ended::NoSlot => 0,
+    }
+}
+
+fn done_shown(x: Done) -> CDone
+    ensures { λ r. ⌜ r ≡ shownDone x ⌝ }
+{
+    let s = x.session;
+    let ended = x.ended;
+    CDone {
+        refusal: x.code,
+        session: session_shown(s),
+        used: x.used,
+        rows: x.rows,
+        sends: x.sends,
+        ended: ended_number(ended),
+        code: ended_code(ended),
+        needed: ended_needs(ended),
+    }
+}
+
+// The messages of s, back to back, each stepped on in turn.
+pub fn steps_c(c: CSession, s: &[u8], rows: &mut [u32], sends: &mut [u32]) -> CDone
+    ensures { λ r. ⌜ (r ≡ stepsC c (now (s .entry)) (length (now (rows .entry))) (length (now (sends .entry)))) × (now (rows .exit) ≡ rowsC c (now (s .entry)) (now (rows .entry)) (now (sends .entry))) × (now (sends .exit) ≡ sendsC c (now (s .entry)) (now (rows .entry)) (now (sends .entry))) ⌝ }
+{
+    if !is_session(c) {
+        return CDone {
+            refusal: NOT_A_SESSION,
+            session: c,
+            used: 0,
+            rows: 0,
+            sends: 0,
+            ended: 0,
+            code: 0,
+            needed: 0,
+        };
+    }
+    done_shown(session_in(c).steps(s, rows, sends))
 }
 
 // A Heartbeat's ID has two bytes.

@@ -3,5 +3,9 @@ pub mod Listed
 pub mod FairStep
 pub mod First
 pub mod Second
+pub mod OwnBytes
+pub mod Unfolding
+pub mod FirstCalls
+pub mod SecondCalls
 pub mod WorkedDay
 pub mod Figures

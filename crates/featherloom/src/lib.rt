@@ -1,5 +1,6 @@
 //! The functions of include/featherloom.h, under their C names. Each hands on to `capi` or below, and promises the same.
 use capi::shape::CConnected;
+use capi::shape::CDone;
 use capi::shape::CHeader;
 use capi::shape::CListed;
 use capi::shape::CMade;
@@ -12,6 +13,7 @@ use capi::shape::CStepped;
 use capi::shape::CValue;
 use capi::shape::CWritten;
 ghost use mathlib.Core.Path.{_≡_};
+ghost use lib.ListN.{length};
 ghost use Rattle.crc.specs.Crc.{crc32c};
 ghost use Rattle.message.specs.Read.{readOf};
 ghost use Rattle.message.specs.List.{listBy, listFields};
@@ -22,6 +24,7 @@ ghost use Rattle.writer.specs.Write.{writeOf, written};
 ghost use Rattle.capi.specs.Planning.{shownPlanned};
 ghost use Rattle.capi.specs.Reading.{readC, shownListed, compIdC, mapC, bodyC, askC, textC};
 ghost use Rattle.capi.specs.Sessions.{freshC, savedC, connectC, dropC, stepC, sendC, sentC, logonC, logonSentC};
+ghost use Rattle.capi.specs.Steps.{stepsC, rowsC, sendsC};
 ghost use Rattle.capi.specs.Writing.{shownWritten, shownLaid, headerOf};
 
 #[no_mangle]
@@ -133,6 +136,18 @@ pub extern "C" fn featherloom_step(session: CSession, bytes: &[u8]) -> CStepped
     ensures { λ r. ⌜ r ≡ stepC session (now (bytes .entry)) ⌝ }
 {
     capi::sessions::step_c(session, bytes)
+}
+
+#[no_mangle]
+pub extern "C" fn featherloom_steps_flat(
+    session: CSession,
+    bytes: &[u8],
+    rows: &mut [u32],
+    sends: &mut [u32],
+) -> CDone
+    ensures { λ r. ⌜ (r ≡ stepsC session (now (bytes .entry)) (length (now (rows .entry))) (length (now (sends .entry)))) × (now (rows .exit) ≡ rowsC session (now (bytes .entry)) (now (rows .entry)) (now (sends .entry))) × (now (sends .exit) ≡ sendsC session (now (bytes .entry)) (now (rows .entry)) (now (sends .entry))) ⌝ }
+{
+    capi::sessions::steps_c(session, bytes, rows, sends)
 }
 
 #[no_mangle]

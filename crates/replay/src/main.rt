@@ -23,6 +23,10 @@ use session::state::Send;
 use session::state::Session;
 use session::state::State;
 use session::state::Stepped;
+use session::state::last_of;
+use session::steps::A_ROW;
+use session::steps::A_SEND;
+use session::steps::Done;
 use spelt::put_amount;
 use spelt::put_number;
 use tables::dictionary::Field;
@@ -46,6 +50,21 @@ const TEXT: u64 = 3;
 
 // Room for the numbers of 64 fields; no message has more.
 const ROOM: usize = 320;
+
+// The sorts of rows by the numbers of a call's list.
+const BUSINESS: u32 = 1;
+
+const SESSION: u32 = 2;
+
+const FILLED: u32 = 3;
+
+const RESET: u32 = 4;
+
+// Room for the rows of one call. A buffer can hold more messages: the next call goes on with those.
+const ROWS: usize = 256 * A_ROW;
+
+// Room for what one message gives to send, the least that a call takes.
+const SENDS: usize = 2 * A_SEND;
 
 // What was asked for on the command line. A Comp ID of zeros: none was given.
 struct Asked {
@@ -287,6 +306,51 @@ fn say_business(out: &mut [u8], said: usize, s: &[u8], row: Row) -> usize {
     }
 }
 
+// The line of a message that gave a row and nothing to send, and its fields if it is handed up. A row makes the number
+// after its last the next.
+fn say_taken(out: &mut [u8], said: usize, at: u64, s: &[u8], row: Row) -> usize {
+    let said = say_labelled(out, said, b"at=", at);
+    let said = say_outcome(out, said, s, 0, row);
+    let said = say_labelled(out, said, b" next=", last_of(row) as u64 + 1);
+    let said = say(out, said, b"\n");
+    say_business(out, said, s, row)
+}
+
+// The row of this sort.
+fn row_by(sort: u32, first: u32, last: u32) -> Row {
+    match sort {
+        BUSINESS => Row::Business(first),
+        SESSION => Row::Session(first),
+        FILLED => Row::Filled(first, last),
+        RESET => Row::Reset(first, last),
+        _ => Row::Nothing,
+    }
+}
+
+// The line of the row whose five numbers these are: its message stands in s, which begins at this offset.
+fn say_placed(out: &mut [u8], said: usize, at: u64, five: &[u32], s: &[u8]) -> usize {
+    if five.len() < A_ROW {
+        return said;
+    }
+    let row = row_by(five[0], five[1], five[2]);
+    let place = five[3] as usize;
+    let part = part_of(s, place, five[4] as usize);
+    say_taken(out, said, more(at, place), part, row)
+}
+
+// The lines of a call's rows, so many, over the bytes s, which begin at this offset.
+fn say_rows(out: &mut [u8], said: usize, at: u64, numbers: &[u32], rows: usize, s: &[u8]) -> usize {
+    let mut now = said;
+    let mut rest = numbers;
+    let mut left = rows;
+    while left > 0 && A_ROW <= rest.len() {
+        now = say_placed(out, now, at, rest, s);
+        rest = &rest[A_ROW..];
+        left -= 1;
+    }
+    now
+}
+
 fn is_down(state: State) -> bool {
     match state {
         State::Down => true,
@@ -305,13 +369,15 @@ fn say_state(out: &mut [u8], said: usize, state: State) -> usize {
 
 // What is kept from turn to turn: the session; whether its Comp ID is ours, and not one that stands in until a message
 // names it; the offset of the first byte that is not looked at yet, which stands at `from` in the input buffer, the bytes
-// read going to `unread`; how many bytes stand in the output buffer; whether the input has ended; whether to go on.
+// read going to `unread`; how many bytes from there on go message by message; how many bytes stand in the output buffer;
+// whether the input has ended; whether to go on.
 struct View {
     session: Session,
     named: bool,
     at: u64,
     from: usize,
     unread: usize,
+    single: usize,
     said: usize,
     closed: bool,
     going: bool,
@@ -326,6 +392,7 @@ impl View {
             at: self.at,
             from: self.from,
             unread: self.unread,
+            single: self.single,
             said,
             closed: self.closed,
             going: false,
@@ -339,13 +406,30 @@ impl View {
             at: self.at,
             from: self.from,
             unread: self.unread,
+            single: self.single,
             said: self.said,
             closed: self.closed,
             going: self.going,
         }
     }
 
-    // A message of this length is dealt with, and the session is this.
+    // So many bytes go message by message.
+    fn by_singles(self, single: usize) -> View {
+        let session = self.session;
+        View {
+            session,
+            named: self.named,
+            at: self.at,
+            from: self.from,
+            unread: self.unread,
+            single,
+            said: self.said,
+            closed: self.closed,
+            going: self.going,
+        }
+    }
+
+    // So many bytes, a message or several, are dealt with, and the session is this.
     fn past(self, session: Session, length: usize, said: usize) -> View {
         let state = session.state;
         let down = is_down(state);
@@ -355,6 +439,7 @@ impl View {
             at: more(self.at, length),
             from: end_of(self.from, length),
             unread: self.unread,
+            single: less(self.single, length),
             said,
             closed: self.closed,
             going: !down,
@@ -370,6 +455,7 @@ impl View {
             at: self.at,
             from: 0,
             unread,
+            single: self.single,
             said: self.said,
             closed,
             going: self.going,
@@ -390,6 +476,10 @@ fn more(at: u64, n: usize) -> u64 {
 fn end_of(from: usize, n: usize) -> usize {
     let room = usize::MAX - from;
     if room < n { usize::MAX } else { from + n }
+}
+
+fn less(from: usize, n: usize) -> usize {
+    if from < n { 0 } else { from - n }
 }
 
 // Moves the bytes from `from` to `end` to the front: how many they are.
@@ -446,6 +536,56 @@ fn step(view: View, buf: &[u8], out: &mut [u8]) -> View {
     view.past(next, front_length(s), said)
 }
 
+// How many bytes the messages of a call's rows are, so many rows.
+fn bytes_of(numbers: &[u32], rows: usize) -> usize {
+    let mut sum: usize = 0;
+    let mut rest = numbers;
+    let mut left = rows;
+    while left > 0 && A_ROW <= rest.len() {
+        sum = end_of(sum, rest[4] as usize);
+        rest = &rest[A_ROW..];
+        left -= 1;
+    }
+    sum
+}
+
+// Whether the rows of a call tell all that it did: bytes are used, nothing is to be sent, and the messages of the rows are
+// all the bytes used, so that none is without a row. A message that meets 2 or 3 uses no bytes, and once our numbers are used
+// up it sends no Logout either: a call that ends Down is not told by its rows.
+fn is_told(done: Done, numbers: &[u32]) -> bool {
+    let session = done.session;
+    let state = session.state;
+    if is_down(state) {
+        return false;
+    }
+    if done.used == 0 || done.sends != 0 {
+        return false;
+    }
+    bytes_of(numbers, done.rows) == done.used
+}
+
+// One call over all messages that stand in the buffer. Where its rows do not tell all that it did, it is as if it had not
+// been made, and its messages go one by one: the first at once.
+fn steps(view: View, buf: &[u8], out: &mut [u8], rows: &mut [u32], sends: &mut [u32]) -> View {
+    let s = left(buf, view.from, view.unread);
+    let session = view.session;
+    let done = session.steps(s, rows, sends);
+    let next = done.session;
+    if !is_told(done, rows) {
+        return step(view.by_singles(done.used), buf, out);
+    }
+    let said = say_rows(out, view.said, view.at, rows, done.rows, s);
+    view.past(next, done.used, said)
+}
+
+// The next messages of a session whose Comp ID is ours.
+fn advance(view: View, buf: &[u8], out: &mut [u8], rows: &mut [u32], sends: &mut [u32]) -> View {
+    if 0 < view.single {
+        return step(view, buf, out);
+    }
+    steps(view, buf, out, rows, sends)
+}
+
 // The session connects with this Comp ID, and its Logon is sent. A refusal ends the view.
 fn begin(view: View, comp: &[u8], named: bool, asked: Asked, out: &mut [u8]) -> View {
     let made = Session::saved(comp, asked.expected, asked.own);
@@ -478,8 +618,16 @@ fn name(view: View, asked: Asked, buf: &[u8], out: &mut [u8]) -> View {
     }
 }
 
-// One turn: more input, where a whole message may not stand in the buffer yet; or a step. It ends once a write has failed.
-fn turn(view: View, asked: Asked, fd: i32, buf: &mut [u8], out: &mut [u8]) -> View {
+// One turn: more input, where a whole message may not stand in the buffer yet; or steps. It ends once a write has failed.
+fn turn(
+    view: View,
+    asked: Asked,
+    fd: i32,
+    buf: &mut [u8],
+    out: &mut [u8],
+    rows: &mut [u32],
+    sends: &mut [u32],
+) -> View {
     let n = left(buf, view.from, view.unread).len();
     if out.len() < view.said {
         return view.stopped(view.said);
@@ -491,7 +639,7 @@ fn turn(view: View, asked: Asked, fd: i32, buf: &mut [u8], out: &mut [u8]) -> Vi
         return view.stopped(view.said);
     }
     if view.named {
-        return step(view, buf, out);
+        return advance(view, buf, out, rows, sends);
     }
     step(name(view, asked, buf, out), buf, out)
 }
@@ -524,11 +672,19 @@ fn say_end(view: View, out: &mut [u8], left: u64) -> usize {
 }
 
 // A proved loop ends, and nothing says that the input does: turns are counted down from a number that no run uses up.
-fn run(view: View, asked: Asked, fd: i32, buf: &mut [u8], out: &mut [u8]) -> View {
+fn run(
+    view: View,
+    asked: Asked,
+    fd: i32,
+    buf: &mut [u8],
+    out: &mut [u8],
+    rows: &mut [u32],
+    sends: &mut [u32],
+) -> View {
     let mut v = view;
     let mut turns = u64::MAX;
     while turns > 0 && v.going {
-        v = turn(v, asked, fd, buf, out);
+        v = turn(v, asked, fd, buf, out, rows, sends);
         turns -= 1;
     }
     v
@@ -545,9 +701,17 @@ fn connect(view: View, asked: Asked, out: &mut [u8]) -> View {
 }
 
 // The whole capture.
-fn follow(view: View, asked: Asked, fd: i32, buf: &mut [u8], out: &mut [u8]) {
+fn follow(
+    view: View,
+    asked: Asked,
+    fd: i32,
+    buf: &mut [u8],
+    out: &mut [u8],
+    rows: &mut [u32],
+    sends: &mut [u32],
+) {
     let begun = connect(view, asked, out);
-    let v = run(begun, asked, fd, buf, out);
+    let v = run(begun, asked, fd, buf, out, rows, sends);
     let n = count_left(v, fd, buf);
     let said = say_end(v, out, n);
     flush(out, said);
@@ -556,6 +720,8 @@ fn follow(view: View, asked: Asked, fd: i32, buf: &mut [u8], out: &mut [u8]) {
 fn replay(asked: Asked, fd: i32) {
     let mut buf = [0u8; 65536];
     let mut out = [0u8; 65536];
+    let mut rows = [0u32; ROWS];
+    let mut sends = [0u32; SENDS];
     let none = Session::fresh(b"");
     let session = none.session;
     let view = View {
@@ -564,11 +730,12 @@ fn replay(asked: Asked, fd: i32) {
         at: 0,
         from: 0,
         unread: 0,
+        single: 0,
         said: 0,
         closed: false,
         going: true,
     };
-    follow(view, asked, fd, &mut buf, &mut out);
+    follow(view, asked, fd, &mut buf, &mut out, &mut rows, &mut sends);
 }
 
 // A number of at most 32 bits, one at least.

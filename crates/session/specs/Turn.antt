@@ -1,42 +1,31 @@
 -- Business in its turn, which most messages of a day are. No rule cites it: that a Live session takes it is a law of the rules, by which a step
 -- may answer it early.
 use Prim.Native.Nat.{ℕ}
-use mathlib.Core.Bool.{Bool, true, false, cond}
-use lib.Dec.{eqb}
-use Rattle.session.specs.declared.arrival.Content.{Content}
-use Rattle.session.specs.declared.arrival.Content.the-variants.{
-  Heartbeat,
-  TestRequest,
-  ResendRequest,
-  Reject,
-  Reset,
-  GapFill,
-  Logon,
-  Logout,
-  Lookup,
-  Business,
-}
-use Rattle.session.specs.declared.arrival.Message.{Message}
-use Rattle.session.specs.declared.arrival.Arrival.{Arrival}
-use Rattle.session.specs.declared.arrival.Arrival.the-variants.{Refused, Good}
+use mathlib.Core.Bool.{Bool, true, false, cond, _&&_}
+use mathlib.Core.List.{List}
+use lib.Dec.{eqb, ltb}
+use Rattle.message.specs.declared.frame.Header.{Header}
+use Rattle.message.specs.declared.read.Reading.{Reading}
+use Rattle.message.specs.declared.read.Reading.the-variants.{Good, Refused}
+use Rattle.session.specs.declared.state.Session.{Session}
+use Rattle.session.specs.declared.state.State.{State}
+use Rattle.session.specs.declared.state.State.the-variants.{Down, Waiting, Live}
+use Rattle.session.specs.Arrival.{isOurs}
 use Rattle.session.specs.State.{last}
 
-unfoldable pub isBusiness : Content → Bool
-isBusiness Heartbeat = false
-isBusiness (TestRequest id) = false
-isBusiness (ResendRequest start end) = false
-isBusiness Reject = false
-isBusiness (Reset new) = false
-isBusiness (GapFill new) = false
-isBusiness (Logon next) = false
-isBusiness Logout = false
-isBusiness Lookup = false
-isBusiness Business = true
+unfoldable pub isLive : State → Bool
+isLive Down = false
+isLive Waiting = false
+isLive Live = true
 
--- business of ours with the number e, which is not the last
-unfoldable pub isDue : Message → ℕ → Bool
-isDue m e = cond (m .ours) (cond (eqb (m .number) e) (cond (eqb e last) false (isBusiness (m .content))) false) false
+-- the header of business with the number e, which is not the last
+unfoldable pub isDueHeader : Header → ℕ → Bool
+isDueHeader h e = (ltb 8 (h .kind) && eqb (h .number) e) && ltb e last
 
-unfoldable pub inTurn : Arrival → ℕ → Bool
-inTurn (Refused k) e = false
-inTurn (Good m) e = isDue m e
+-- of a message of ours its length, 0 for any other
+unfoldable pub dueIn : Session → List ℕ → Reading → ℕ
+dueIn s left (Good h n) = cond (isDueHeader h (s .expected) && isOurs (s .ours) left) n 0
+dueIn s left (Refused r) = 0
+
+unfoldable pub dueLength : Session → List ℕ → Reading → ℕ
+dueLength s left r = cond (isLive (s .state)) (dueIn s left r) 0

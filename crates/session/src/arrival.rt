@@ -1,7 +1,10 @@
 // What one step finds at the front of its bytes: the reader's refusal, or what the rules need of a good message.
 use crate::state::LAST;
+use crate::state::Session;
+use crate::state::State;
 use fields::value::Value;
 use fields::value::value_of;
+use message::frame::Header;
 use message::frame::body_in;
 use message::frame::comp_bytes_in;
 use message::frame::comp_id_in;
@@ -16,8 +19,8 @@ ghost use mathlib.Core.Bool.{true};
 ghost use Prim.Native.Nat.{_≤_};
 ghost use Rattle.wire.specs.Text.{fixedPart};
 ghost use Rattle.message.specs.Frame.{mapIn, bodyIn};
-ghost use Rattle.session.specs.Turn.{isBusiness, isDue, inTurn};
-ghost use Rattle.session.specs.Arrival.{sameBytes, upTo, isYes, sequenceReset, contentOf, isOurs, arrivalOf};
+ghost use Rattle.session.specs.Turn.{isDueHeader, dueLength};
+ghost use Rattle.session.specs.Arrival.{sameBytes, upTo, isYes, sequenceReset, contentOf, isOurs, arrivalBy, arrivalOf};
 
 // A message's type, with the numbers of its fields that the rules name.
 pub enum Content {
@@ -184,11 +187,11 @@ fn is_ours(ours: &[u8; 12], s: &[u8]) -> bool
     is_same(fixed_part(ours, 12), comp_id_in(s))
 }
 
-// The message at the front of s: one checksum pass and one walk, and then the fields that the rules name.
-pub fn arrival_of(ours: &[u8; 12], s: &[u8]) -> Arrival
-    ensures { λ r. ⌜ r ≡ arrivalOf (now (ours .entry)) (now (s .entry)) ⌝ }
+// What was read at the front of s: a good message's fields that the rules name.
+pub fn arrival_by(ours: &[u8; 12], s: &[u8], reading: Reading) -> Arrival
+    ensures { λ r. ⌜ r ≡ arrivalBy (now (ours .entry)) (now (s .entry)) reading ⌝ }
 {
-    match read(s) {
+    match reading {
         Reading::Good { header, length } => Arrival::Good(Message {
             number: header.number,
             possdup: header.possdup == 1,
@@ -199,45 +202,41 @@ pub fn arrival_of(ours: &[u8; 12], s: &[u8]) -> Arrival
     }
 }
 
-fn is_business(content: Content) -> bool
-    ensures { λ r. ⌜ r ≡ isBusiness content ⌝ }
+// The message at the front of s: one checksum pass and one walk, and then the fields that the rules name.
+pub fn arrival_of(ours: &[u8; 12], s: &[u8]) -> Arrival
+    ensures { λ r. ⌜ r ≡ arrivalOf (now (ours .entry)) (now (s .entry)) ⌝ }
 {
-    match content {
-        Content::Heartbeat => false,
-        Content::TestRequest(_) => false,
-        Content::ResendRequest(_, _) => false,
-        Content::Reject => false,
-        Content::Reset(_) => false,
-        Content::GapFill(_) => false,
-        Content::Logon(_) => false,
-        Content::Logout => false,
-        Content::Lookup => false,
-        Content::Business => true,
-    }
+    arrival_by(ours, s, read(s))
 }
 
-// Whether a message is business of ours with the number e that is expected, which is not the last.
-fn is_due(message: Message, e: u32) -> bool
-    ensures { λ r. ⌜ r ≡ isDue message e ⌝ }
+// Whether a header is that of business with the number e, which is not the last.
+fn is_due_header(header: Header, e: u32) -> bool
+    ensures { λ r. ⌜ r ≡ isDueHeader header e ⌝ }
 {
-    let content = message.content;
-    if !message.ours {
-        return false;
-    }
-    if message.number != e {
-        return false;
-    }
-    if e == LAST {
-        return false;
-    }
-    is_business(content)
+    (8 < header.kind) & (header.number == e) & (e < LAST)
 }
 
-pub fn is_in_turn(arrival: Arrival, e: u32) -> bool
-    ensures { λ r. ⌜ r ≡ inTurn arrival e ⌝ }
-{
-    match arrival {
-        Arrival::Refused(_) => false,
-        Arrival::Good(message) => is_due(message, e),
+impl Session {
+    // The length of business in its turn, for a Live session; 0 for any other message.
+    pub fn due_length(self, s: &[u8], reading: Reading) -> usize
+        ensures { λ r. ⌜ r ≡ dueLength self (now (s .entry)) reading ⌝ }
+    {
+        let state = self.state;
+        let ours = self.ours;
+        match state {
+            State::Down => return 0,
+            State::Waiting => return 0,
+            State::Live => {}
+        }
+        match reading {
+            Reading::Good { header, length } => {
+                if is_due_header(header, self.expected) & is_ours(&ours, s) {
+                    length
+                } else {
+                    0
+                }
+            }
+            Reading::Refused(_) => 0,
+        }
     }
 }

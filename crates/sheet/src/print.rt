@@ -2,6 +2,8 @@
 use session::state::Row;
 use session::state::Send;
 use session::state::Stepped;
+use session::state::first_of;
+use session::state::last_of;
 use spelt::put_number;
 use wire::laying::Laid;
 use wire::laying::put_bytes;
@@ -12,7 +14,6 @@ ghost use lib.ListN.{length, take};
 ghost use Rattle.wire.specs.Spelled.{spelled};
 ghost use Rattle.wire.specs.Laying.{laid, laidAnswer};
 ghost use Rattle.spelt.specs.Spelt.{numberText};
-ghost use Rattle.session.specs.State.{firstOf, lastOf};
 ghost use Rattle.sheet.specs.Print.{rowName, sendName, printed, printedBad};
 
 // The bytes w behind the first `at` of d; where the next begin.
@@ -49,30 +50,6 @@ fn put_row(d: &mut [u8], row: Row) -> usize
         Row::Session(_) => put(d, 0, b"row=session"),
         Row::Filled(_, _) => put(d, 0, b"row=filled"),
         Row::Reset(_, _) => put(d, 0, b"row=reset"),
-    }
-}
-
-fn first_of(row: Row) -> u32
-    ensures { λ r. ⌜ r ≡ firstOf row ⌝ }
-{
-    match row {
-        Row::Nothing => 0,
-        Row::Business(n) => n,
-        Row::Session(n) => n,
-        Row::Filled(first, _) => first,
-        Row::Reset(first, _) => first,
-    }
-}
-
-fn last_of(row: Row) -> u32
-    ensures { λ r. ⌜ r ≡ lastOf row ⌝ }
-{
-    match row {
-        Row::Nothing => 0,
-        Row::Business(n) => n,
-        Row::Session(n) => n,
-        Row::Filled(_, last) => last,
-        Row::Reset(_, last) => last,
     }
 }
 

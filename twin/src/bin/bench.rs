@@ -8,8 +8,8 @@ mod proved;
 use std::time::Instant;
 use twin::plain;
 use twin::reader::{self, Value, A_FIELD};
-use twin::reports::{self, Parts, Question, LIST, QUESTIONS, US};
-use twin::session::{self, RowSort};
+use twin::reports::{self, Parts, Question, LIST, QUESTIONS, SLICE, SLICE_ROWS, SLICE_SENDS, US};
+use twin::session::{self, RowSort, A_ROW, ROW_LAST, ROW_SORT};
 use twin::wire::MOST;
 use twin::{crc, writer};
 
@@ -217,13 +217,19 @@ fn questions(messages: &[Vec<u8>], times: usize) -> Seconds {
     rounds([Some(&mut proved), None, Some(&mut plain)])
 }
 
-/// One Live session a side, and a day of reports with rising numbers. The day
-/// is made chunk by chunk outside the clock, so that it need not be held whole.
-fn step(reports: &[Vec<u8>], day: usize) -> (Seconds, u64) {
+/// One Live session a side, and a day of reports with rising numbers, so many
+/// of them in each call. `chunk` holds what the calls are lent; it is numbered
+/// anew for each part of the day outside the clock, so that the day need not be
+/// held whole. A side gives a figure made from what it answers to one call.
+fn day(
+    mut chunk: Vec<Vec<u8>>,
+    parts: usize,
+    mut library: impl FnMut(&mut proved::Session, &[u8]) -> u64,
+    mut clear: impl FnMut(&mut session::Session, &[u8]) -> u64,
+    mut fast: impl FnMut(&mut plain::Session, &[u8]) -> u64,
+) -> (Seconds, u64) {
     let mut all = Seconds::default();
-    let mut bytes_a_day = 0;
     for round in 0..ROUNDS {
-        let mut chunk = reports.to_vec();
         let logon = reports::logon();
         let mut a = proved::connect(proved::fresh(US).session, b"").session;
         a = proved::step(a, &logon).session;
@@ -236,28 +242,13 @@ fn step(reports: &[Vec<u8>], day: usize) -> (Seconds, u64) {
 
         let mut seconds = [0.0; 3];
         let mut next = 2;
-        bytes_a_day = 0;
-        for part in 0..day / reports.len() {
+        for part in 0..parts {
             for bytes in &mut chunk {
-                reports::renumber(bytes, next);
-                next += 1;
-                bytes_a_day += bytes.len() as u64;
+                next = reports::renumber_each(bytes, next);
             }
-            // Business rows only, each with the message's number.
-            let mut proved = || {
-                let mut figure = 0;
-                for bytes in &chunk {
-                    let answer = proved::step(a, bytes);
-                    a = answer.session;
-                    figure += u64::from(answer.row.kind == 1) * u64::from(answer.row.last);
-                }
-                figure
-            };
-            let business = |answer: session::Answer| {
-                u64::from(answer.row.sort == RowSort::Business) * u64::from(answer.row.last)
-            };
-            let mut twin = || chunk.iter().map(|bytes| business(b.step(bytes))).sum();
-            let mut plain = || chunk.iter().map(|bytes| business(c.step(bytes))).sum();
+            let mut proved = || chunk.iter().map(|bytes| library(&mut a, bytes)).sum();
+            let mut twin = || chunk.iter().map(|bytes| clear(&mut b, bytes)).sum();
+            let mut plain = || chunk.iter().map(|bytes| fast(&mut c, bytes)).sum();
             let took = in_turn(
                 round + part,
                 &mut [Some(&mut proved), Some(&mut twin), Some(&mut plain)],
@@ -271,7 +262,72 @@ fn step(reports: &[Vec<u8>], day: usize) -> (Seconds, u64) {
             side.push(took);
         }
     }
-    (all, bytes_a_day)
+    let bytes: usize = chunk.iter().map(Vec::len).sum();
+    (all, (bytes * parts) as u64)
+}
+
+/// A figure of business rows only, each with the message's number.
+fn business(sort: u32, last: u32) -> u64 {
+    u64::from(sort == RowSort::Business as u32) * u64::from(last)
+}
+
+/// A report in each call.
+fn step(reports: &[Vec<u8>], parts: usize) -> (Seconds, u64) {
+    let figure = |answer: session::Answer| business(answer.row.sort as u32, answer.row.last);
+    day(
+        reports.to_vec(),
+        parts,
+        |a, bytes| {
+            let answer = proved::step(*a, bytes);
+            *a = answer.session;
+            business(answer.row.kind, answer.row.last)
+        },
+        |b, bytes| figure(b.step(bytes)),
+        |c, bytes| figure(c.step(bytes)),
+    )
+}
+
+/// The lists of a side that is lent a slice of reports in each call.
+struct Lists {
+    rows: [u32; SLICE_ROWS],
+    sends: [u32; SLICE_SENDS],
+}
+
+impl Lists {
+    fn new() -> Lists {
+        Lists {
+            rows: [0; SLICE_ROWS],
+            sends: [0; SLICE_SENDS],
+        }
+    }
+
+    /// The figure of so many rows that were laid.
+    fn figure(&self, rows: usize) -> u64 {
+        let rows = self.rows.chunks_exact(A_ROW).take(rows);
+        rows.map(|row| business(row[ROW_SORT], row[ROW_LAST])).sum()
+    }
+}
+
+/// A slice of reports back to back in each call; the last of a part is shorter.
+fn steps(reports: &[Vec<u8>], parts: usize) -> (Seconds, u64) {
+    let (mut one, mut other, mut third) = (Lists::new(), Lists::new(), Lists::new());
+    day(
+        reports.chunks(SLICE).map(<[_]>::concat).collect(),
+        parts,
+        |a, bytes| {
+            let done = proved::steps(*a, bytes, &mut one.rows, &mut one.sends);
+            *a = done.session;
+            one.figure(done.rows)
+        },
+        |b, bytes| {
+            let done = b.steps(bytes, &mut other.rows, &mut other.sends);
+            other.figure(done.rows)
+        },
+        |c, bytes| {
+            let done = c.steps(bytes, &mut third.rows, &mut third.sends);
+            third.figure(done.rows)
+        },
+    )
 }
 
 fn median(seconds: &[f64]) -> f64 {
@@ -349,7 +405,9 @@ fn main() {
     );
 
     let read = read(&reports, times);
-    let (step, bytes_a_day) = step(&reports, day);
+    let parts = day / count;
+    let (step, bytes_a_day) = step(&reports, parts);
+    let (steps, _) = steps(&reports, parts);
     let fields = fields(&reports, times);
     // Eight calls a message, so fewer times.
     let questions_times = times / 5;
@@ -362,6 +420,7 @@ fn main() {
     let (messages, all_bytes) = ((count * times) as u64, bytes * times as u64);
     tell("read", messages, all_bytes, &read);
     tell("step", day as u64, bytes_a_day, &step);
+    tell("steps", day as u64, bytes_a_day, &steps);
     tell("fields", messages, all_bytes, &fields);
     tell(
         "questions",
@@ -376,6 +435,7 @@ fn main() {
     for (work, seconds) in [
         ("read", &read),
         ("step", &step),
+        ("steps", &steps),
         ("fields", &fields),
         ("questions", &questions),
         ("write", &write),

@@ -7,7 +7,8 @@
 mod proved;
 
 use proved::{
-    Connected, Header, Listed, Made, Part, Planned, Reading, Row, Send, Stepped, Value, Written,
+    Connected, Done, Header, Listed, Made, Part, Planned, Reading, Row, Send, Stepped, Value,
+    Written,
 };
 use std::fmt::{Debug, Formatter};
 use std::io::Write;
@@ -16,11 +17,12 @@ use std::time::{Duration, Instant};
 use twin::make::{self, Event, Rng};
 use twin::reader::{self, Head, A_FIELD};
 use twin::reports::LIST;
-use twin::session::{self, Phase, RowSort, LAST};
+use twin::session::{self, Ended, Phase, RowSort, A_ROW, A_SEND, LAST};
+use twin::session::{ROWS_A_STEP, ROW_PLACE, SENDS_A_STEP};
 use twin::tables;
 use twin::wire::{self, Refusal, BODY_AT, MAP_WIDTH, TRAILER};
 use twin::writer::{self, HeadValues};
-use twin::{crc, daysheet, plan};
+use twin::{crc, daysheet, plain, plan};
 
 const NOT_A_SESSION: u32 = 90;
 const NOT_A_SEND: u32 = 91;
@@ -31,16 +33,17 @@ const ENOUGH: u32 = 10;
 // ---- Counting ----
 
 /// The categories, with their parts of a hundred of the random comparisons.
-const CATEGORIES: [(&str, u64); 10] = [
-    ("short inputs", 8),
-    ("valid messages", 31),
-    ("writes, good and bad", 8),
-    ("damage", 12),
-    ("histories", 22),
-    ("sessions that no day has", 12),
-    ("plan", 5),
+const CATEGORIES: [(&str, u64); 11] = [
+    ("short inputs", 7),
+    ("valid messages", 27),
+    ("writes, good and bad", 7),
+    ("damage", 10),
+    ("histories", 19),
+    ("sessions that no day has", 10),
+    ("plan", 4),
     ("crc32c", 1),
     ("decimals as text", 1),
+    ("many messages in one call", 14),
     ("daysheet", 0),
 ];
 
@@ -49,6 +52,8 @@ struct Tally {
     counts: [u64; CATEGORIES.len()],
     /// How often the twin gave each refusal, to see that none is missed.
     met: [u64; NOT_A_SEND as usize + 1],
+    /// How often a call with many messages ended in each way, likewise.
+    ended: [u64; Ended::NoSlot as usize + 1],
     differences: u32,
     began: Instant,
     told: Instant,
@@ -60,6 +65,7 @@ impl Tally {
             category: 0,
             counts: [0; CATEGORIES.len()],
             met: [0; NOT_A_SEND as usize + 1],
+            ended: [0; Ended::NoSlot as usize + 1],
             differences: 0,
             began: Instant::now(),
             told: Instant::now(),
@@ -119,6 +125,11 @@ impl Tally {
             .map(|(refusal, times): (u32, u64)| format!("{} ({})", refusal, times))
             .collect();
         println!("refusals met, and how often: {}", met.join(", "));
+        let [_, short, down, no_slot] = self.ended;
+        println!(
+            "many messages ended: Short ({}), Down ({}), no slot ({})",
+            short, down, no_slot
+        );
         println!("seconds {}", self.began.elapsed().as_secs());
         println!(
             "compare: {} comparisons, {} differences",
@@ -458,18 +469,13 @@ fn stepped(s: proved::Session, bytes: &[u8]) -> Stepped {
         Some(session) => session,
     };
     let answer = session.step(bytes);
-    // A Length that the step did not get to, or did not trust, is not told.
-    let used = match answer.code {
-        wire::SHORT | wire::BAD_START | wire::BAD_LENGTH | session::DOWN => 0,
-        _ => usize::from(u16::from_le_bytes([bytes[1], bytes[2]])),
-    };
     Stepped {
         refusal: answer.code,
         session: struct_of(&session),
         first: send_struct(answer.sends[0]),
         second: send_struct(answer.sends[1]),
         row: row_struct(answer.row),
-        used,
+        used: session::used(answer.code, bytes),
     }
 }
 
@@ -1307,6 +1313,335 @@ fn hold_decimal(tally: &mut Tally, decimal: i64, room: usize) {
     );
 }
 
+// ---- Many messages in one call ----
+
+/// How many numbers the two lists of a call with many messages hold.
+#[derive(Clone, Copy, Debug)]
+struct Rooms {
+    rows: usize,
+    sends: usize,
+}
+
+impl Rooms {
+    /// Room for all that so many steps may give.
+    fn steps(count: usize) -> Rooms {
+        Rooms {
+            rows: A_ROW * ROWS_A_STEP * count,
+            sends: A_SEND * SENDS_A_STEP * count,
+        }
+    }
+
+    /// Room for all that so many bytes may give: each step but the last uses a
+    /// message.
+    fn enough(count: usize) -> Rooms {
+        Rooms::steps(count / wire::LEAST + 1)
+    }
+}
+
+/// The two lists of a call with many messages, each with guards on both sides.
+#[derive(Clone, Debug, PartialEq)]
+struct Lists {
+    rows: Vec<u32>,
+    sends: Vec<u32>,
+}
+
+impl Lists {
+    /// No two places of a list hold the same number.
+    fn new(rooms: Rooms) -> Lists {
+        let list = |room: usize| {
+            (0..(GUARD + room + GUARD) as u32)
+                .map(|at| at.wrapping_mul(0x9E37_79B9) ^ 0x5555_5555)
+                .collect()
+        };
+        Lists {
+            rows: list(rooms.rows),
+            sends: list(rooms.sends),
+        }
+    }
+
+    /// What is lent to the call, the guards left out.
+    fn lent(&mut self) -> (&mut [u32], &mut [u32]) {
+        let (rows, sends) = (self.rows.len() - GUARD, self.sends.len() - GUARD);
+        (&mut self.rows[GUARD..rows], &mut self.sends[GUARD..sends])
+    }
+}
+
+fn not_a_session(s: proved::Session) -> Done {
+    Done {
+        refusal: NOT_A_SESSION,
+        session: s,
+        ..Done::default()
+    }
+}
+
+/// The library's call.
+fn library_many(s: proved::Session, bytes: &[u8], mut lists: Lists) -> (Done, Lists) {
+    let (rows, sends) = lists.lent();
+    let done = proved::steps(s, bytes, rows, sends);
+    (done, lists)
+}
+
+/// The twin's.
+fn twin_many(s: proved::Session, bytes: &[u8], mut lists: Lists) -> (Done, Lists) {
+    let mut session = match session_of(&s) {
+        None => return (not_a_session(s), lists),
+        Some(session) => session,
+    };
+    let (rows, sends) = lists.lent();
+    let done = session.steps(bytes, rows, sends);
+    (Done::of(struct_of(&session), done), lists)
+}
+
+/// The plain decoder's.
+fn plain_many(s: proved::Session, bytes: &[u8], mut lists: Lists) -> (Done, Lists) {
+    let mut session = match session_of(&s) {
+        None => return (not_a_session(s), lists),
+        Some(session) => session,
+    };
+    let mut fast = plain::Session::of(&session);
+    let (rows, sends) = lists.lent();
+    let done = fast.steps(bytes, rows, sends);
+    session.phase = fast.phase;
+    (session.e, session.o, session.m) = (fast.e, fast.o, fast.m);
+    (Done::of(struct_of(&session), done), lists)
+}
+
+/// Lays numbers into a list's slot of this index.
+fn lay_slot(list: &mut [u32], index: usize, numbers: &[u32]) {
+    list[index * numbers.len()..][..numbers.len()].copy_from_slice(numbers);
+}
+
+/// What a call must give, by the library's own single steps in turn.
+fn singles(s: proved::Session, bytes: &[u8], mut lists: Lists) -> (Done, Lists) {
+    let (rows, sends) = lists.lent();
+    let mut done = Done {
+        session: s,
+        ..Done::default()
+    };
+    // With no bytes a session that is up answers 1.
+    let least = Rooms::steps(1);
+    done.refusal = match proved::step(s, &[]).refusal {
+        wire::SHORT if rows.len() < least.rows || sends.len() < least.sends => wire::NO_ROOM,
+        wire::SHORT => 0,
+        refusal => refusal,
+    };
+    match done.refusal {
+        0 => {}
+        session::DOWN => {
+            done.ended = Ended::Down as u32;
+            done.code = session::DOWN;
+            return (done, lists);
+        }
+        wire::NO_ROOM => {
+            done.ended = Ended::NoSlot as u32;
+            (done.rows, done.sends) = (ROWS_A_STEP, SENDS_A_STEP);
+            return (done, lists);
+        }
+        _ => return (done, lists),
+    }
+    loop {
+        let rest = &bytes[done.used..];
+        let answer = proved::step(done.session, rest);
+        if answer.refusal == wire::SHORT {
+            done.ended = Ended::Short as u32;
+            done.needed = proved::read(rest).besides;
+            return (done, lists);
+        }
+        let Row { kind, first, last } = answer.row;
+        let to_send = [answer.first, answer.second];
+        let to_send = to_send.iter().filter(|send| send.kind != 0);
+        let row_end = done.rows + usize::from(kind != 0);
+        let send_end = done.sends + to_send.clone().count();
+        if A_ROW * row_end > rows.len() || A_SEND * send_end > sends.len() {
+            done.ended = Ended::NoSlot as u32;
+            return (done, lists);
+        }
+        if kind != 0 {
+            let numbers = [kind, first, last, done.used as u32, answer.used as u32];
+            lay_slot(rows, done.rows, &numbers);
+        }
+        for (index, send) in (done.sends..).zip(to_send) {
+            let numbers = [send.kind, send.number, send.first, send.second];
+            lay_slot(sends, index, &numbers);
+        }
+        done.session = answer.session;
+        done.used += answer.used;
+        (done.rows, done.sends) = (row_end, send_end);
+        if done.session.state == proved::DOWN {
+            done.ended = Ended::Down as u32;
+            done.code = answer.refusal;
+            return (done, lists);
+        }
+    }
+}
+
+/// What a call over all the bytes must give, by the library's calls over their
+/// front and then over what that left unused and the rest. The lists have enough
+/// room, so that no slot is missing.
+fn in_two(s: proved::Session, bytes: &[u8], cut: usize) -> (Done, Lists) {
+    let (first, mut lists) = library_many(s, &bytes[..cut], Lists::new(Rooms::enough(bytes.len())));
+    if first.refusal != 0 || first.ended != Ended::Short as u32 {
+        return (first, lists);
+    }
+    let left = &bytes[first.used..];
+    let (mut then, mut more) =
+        library_many(first.session, left, Lists::new(Rooms::enough(left.len())));
+    let (rows, sends) = lists.lent();
+    let (more_rows, more_sends) = more.lent();
+    for (index, row) in (first.rows..).zip(more_rows.chunks_exact_mut(A_ROW).take(then.rows)) {
+        // Its place was counted from what was left.
+        row[ROW_PLACE] += first.used as u32;
+        lay_slot(rows, index, row);
+    }
+    for (index, send) in (first.sends..).zip(more_sends.chunks_exact(A_SEND).take(then.sends)) {
+        lay_slot(sends, index, send);
+    }
+    then.used += first.used;
+    then.rows += first.rows;
+    then.sends += first.sends;
+    (then, lists)
+}
+
+/// The refusal that a call met: its own, or that of the step which left the
+/// session Down.
+fn met(done: &Done) -> u32 {
+    if done.refusal != 0 {
+        done.refusal
+    } else {
+        done.code
+    }
+}
+
+/// The whole answer, and every number of both lists afterwards, of the library,
+/// of the twin and of the plain decoder; then of the library's single steps.
+fn hold_many(tally: &mut Tally, s: proved::Session, bytes: &[u8], rooms: Rooms) -> Done {
+    let lists = Lists::new(rooms);
+    let input = |how: &str| {
+        let (session, bytes) = (shown(&s), hex(bytes));
+        format!("steps, {}, {} {:?} {}", how, session, rooms, bytes)
+    };
+    let twin = twin_many(s, bytes, lists.clone());
+    let plain = plain_many(s, bytes, lists.clone());
+    let proved = library_many(s, bytes, lists.clone());
+    let done = twin.0;
+    let refusal = met(&done);
+    tally.ended[done.ended as usize] += 1;
+    let both = [proved.clone(), proved.clone()];
+    tally.hold(refusal, [twin, plain], both, || input("twin and plain"));
+    let singles = singles(s, bytes, lists);
+    tally.hold(refusal, singles, proved, || input("single steps"));
+    done
+}
+
+/// One call over all the bytes, against two. The twin has met this refusal over
+/// them.
+fn hold_in_two(tally: &mut Tally, refusal: u32, s: proved::Session, bytes: &[u8], cut: usize) {
+    let proved = library_many(s, bytes, Lists::new(Rooms::enough(bytes.len())));
+    tally.hold(refusal, in_two(s, bytes, cut), proved, || {
+        let (session, bytes) = (shown(&s), hex(bytes));
+        format!("steps, two calls cut at {}, {} {}", cut, session, bytes)
+    });
+}
+
+/// Below these many numbers every room is tried, those too that make no whole
+/// slot.
+const ROW_ROOMS: usize = 8 * A_ROW + 1;
+const SEND_ROOMS: usize = 6 * A_SEND + 1;
+
+/// Rooms of which one at least is small.
+fn small_rooms(rng: &mut Rng, count: usize) -> Rooms {
+    let mut rooms = Rooms::enough(count);
+    let which = rng.below(4);
+    if which != 0 {
+        rooms.rows = rng.index(ROW_ROOMS);
+    }
+    // Messages to send are rare, so the least room is tried more often.
+    if which != 1 {
+        rooms.sends = if rng.chance(50) {
+            Rooms::steps(1).sends + rng.index(A_SEND)
+        } else {
+            rng.index(SEND_ROOMS)
+        };
+    }
+    rooms
+}
+
+/// How many numbers a slice may take, and more.
+const SPARE: u32 = 1_000;
+
+/// A session to step on slices: mostly one that is up, with numbers to spare.
+fn session_for_many(rng: &mut Rng) -> session::Session {
+    let mut session = some_session(rng);
+    if session.phase == Phase::Down && rng.chance(80) {
+        session.phase = Phase::Live;
+    }
+    if rng.chance(80) {
+        session.o = session.o.min(LAST - SPARE);
+        if session.e > LAST - SPARE {
+            session.e = LAST - SPARE;
+            session.m = 0;
+        }
+    }
+    session
+}
+
+/// A slice that gives more rows and more messages to send than the small rooms
+/// hold.
+fn full_slice(rng: &mut Rng, session: &session::Session) -> Vec<u8> {
+    loop {
+        let bytes = make::slice(rng, session, 40);
+        let lists = Lists::new(Rooms::enough(bytes.len()));
+        let (done, _) = twin_many(struct_of(session), &bytes, lists);
+        if A_ROW * done.rows > ROW_ROOMS && A_SEND * done.sends > SEND_ROOMS {
+            return bytes;
+        }
+    }
+}
+
+fn many_messages(tally: &mut Tally, rng: &mut Rng, until: u64) {
+    let [down, waiting, live] = small_sessions();
+    for up in [waiting, live] {
+        let session = session_of(&up).expect("a session of some day");
+        let bytes = full_slice(rng, &session);
+        for rows in 0..ROW_ROOMS {
+            for sends in 0..SEND_ROOMS {
+                for s in [down, up] {
+                    hold_many(tally, s, &bytes, Rooms { rows, sends });
+                }
+            }
+        }
+    }
+    while tally.count() < until {
+        let mut session = session_for_many(rng);
+        // The session goes on from slice to slice.
+        for _ in 0..3 {
+            let count = 1 + rng.index(12);
+            let mut bytes = make::slice(rng, &session, count);
+            if rng.chance(3) {
+                let more = rng.index(200);
+                let at = rng.index(bytes.len() + 1);
+                bytes.splice(at..at, rng.bytes(more));
+            }
+            let mut s = struct_of(&session);
+            match rng.below(30) {
+                0 => s = any_struct(rng),
+                1 | 2 => bend(rng, &mut s),
+                _ => {}
+            }
+            let done = hold_many(tally, s, &bytes, Rooms::enough(bytes.len()));
+            hold_many(tally, s, &bytes, small_rooms(rng, bytes.len()));
+            for _ in 0..6 {
+                let cut = rng.index(bytes.len() + 1);
+                hold_in_two(tally, met(&done), s, &bytes, cut);
+            }
+            match session_of(&done.session) {
+                Some(next) if next.phase != Phase::Down => session = next,
+                _ => break,
+            }
+        }
+    }
+}
+
 // ---- Daysheet ----
 
 /// Runs the program on a sheet; what it printed.
@@ -1397,7 +1732,7 @@ struct Options {
 fn options() -> Options {
     let mut options = Options {
         seed: 1,
-        count: 2_000_000,
+        count: 2_300_000,
         sheets: 240,
         daysheet: None,
     };
@@ -1427,7 +1762,7 @@ fn main() {
     let options = options();
     println!("compare: seed {}", options.seed);
     let mut tally = Tally::new();
-    let runs: [fn(&mut Tally, &mut Rng, u64); 9] = [
+    let runs: [fn(&mut Tally, &mut Rng, u64); 10] = [
         short_inputs,
         valid_messages,
         writes,
@@ -1437,6 +1772,7 @@ fn main() {
         plans,
         sums,
         decimals,
+        many_messages,
     ];
     // Each category has a generator of its own, so that none moves another.
     let rng = |category: usize| {

@@ -14,8 +14,8 @@ use steps::counted;
 use twin::make::Rng;
 use twin::plain;
 use twin::reader::{Head, Value};
-use twin::reports::{self, Question, LIST, QUESTIONS, US};
-use twin::session::Send;
+use twin::reports::{self, Question, LIST, QUESTIONS, SLICE, SLICE_ROWS, SLICE_SENDS, US};
+use twin::session::{Done, Ended, Send};
 use twin::wire::{Refusal, MOST};
 
 const REPORTS: usize = 100;
@@ -63,15 +63,19 @@ fn read(reports: &[Vec<u8>]) -> Counts {
     counts
 }
 
+/// A session a side that has taken the gateway's Logon and expects number 2.
+fn live() -> (proved::Session, plain::Session) {
+    let logon = reports::logon();
+    let waiting = proved::connect(proved::fresh(US).session, b"").session;
+    let mut plain = plain::Session::fresh(US).expect("a good Comp ID");
+    plain.connect(b"").expect("a fresh day connects");
+    plain.step(&logon);
+    (proved::step(waiting, &logon).session, plain)
+}
+
 /// A Live session a side, which takes the reports in turn.
 fn step(reports: &[Vec<u8>]) -> Counts {
-    let logon = reports::logon();
-    let mut a = proved::connect(proved::fresh(US).session, b"").session;
-    a = proved::step(a, &logon).session;
-    let mut b = plain::Session::fresh(US).expect("a good Comp ID");
-    b.connect(b"").expect("a fresh day connects");
-    b.step(&logon);
-
+    let (mut a, mut b) = live();
     let mut counts = Counts::default();
     for (bytes, number) in reports.iter().zip(2..) {
         let mut bytes = bytes.clone();
@@ -86,6 +90,44 @@ fn step(reports: &[Vec<u8>]) -> Counts {
         assert_eq!((told.code, row.sort as u32, row.first, row.last), business);
         assert_eq!(told.sends, [Send::None; 2]);
         assert_eq!((a.expected, a.own, a.ahead), (b.e, b.o, b.m));
+    }
+    counts
+}
+
+/// What both sides must say of a slice taken whole: nothing is left, so the
+/// next message needs its first three bytes.
+fn taken_whole(bytes: &[u8]) -> Done {
+    Done {
+        refusal: 0,
+        used: bytes.len(),
+        rows: SLICE,
+        sends: 0,
+        ended: Ended::Short,
+        code: 0,
+        needed: 3,
+    }
+}
+
+/// A Live session a side, which takes the reports in slices, one call each.
+fn many(reports: &[Vec<u8>]) -> Counts {
+    let (mut a, mut b) = live();
+    let mut counts = Counts::default();
+    let mut next = a.expected;
+    for slice in reports.chunks_exact(SLICE) {
+        let mut bytes = slice.concat();
+        next = reports::renumber_each(&mut bytes, next);
+        let (mut rows, mut sends) = ([0; SLICE_ROWS], [0; SLICE_SENDS]);
+        let (mut other_rows, mut other_sends) = (rows, sends);
+        let (said, told) = counts.add(
+            || proved::steps(a, &bytes, &mut rows, &mut sends),
+            || b.steps(&bytes, &mut other_rows, &mut other_sends),
+        );
+        a = said.session;
+        assert_eq!(said, proved::Done::of(a, told));
+        assert_eq!(told, taken_whole(&bytes));
+        assert_eq!((rows, sends), (other_rows, other_sends));
+        assert_eq!((a.expected, a.own, a.ahead), (b.e, b.o, b.m));
+        assert_eq!(a.expected, next);
     }
     counts
 }
@@ -203,6 +245,7 @@ fn count() {
     let read = read(&reports);
     tell("read", read, REPORTS);
     tell("step", step(&reports), REPORTS);
+    tell("steps", many(&reports), REPORTS / SLICE * SLICE);
     let fields = fields(&reports);
     tell("fields", fields, REPORTS);
     tell("questions", questions(&reports), REPORTS);

@@ -1,4 +1,4 @@
--- `replay::run` is safe and ends: turns are counted down, and the buffers keep their lengths.
+-- `replay::run` is safe and ends: turns are counted down, and the buffers and lists keep their lengths.
 use mathlib.Core.Path.{_≡_}
 use lib.ListN.{length}
 use borrow.Author.Needs.{needs}
@@ -6,10 +6,11 @@ use Rattle.replay.proofs.run.Statement.{statement}
 use Rattle.replay.proofs.run.Tie as tie
 
 abbrev Inv-loop : tie.InvT-loop
-Inv-loop asked fd buf₀ out₀ v₀ turns₀ buf out v turns = (length buf ≡ length buf₀) × (length out ≡ length out₀)
+Inv-loop asked fd buf₀ out₀ rows₀ sends₀ v₀ turns₀ buf out rows sends v turns =
+    (length buf ≡ length buf₀) × (length out ≡ length out₀) × (length rows ≡ length rows₀) × (length sends ≡ length sends₀)
 
 abbrev μ-loop : tie.MeasureT-loop
-μ-loop asked fd buf₀ out₀ v₀ turns₀ buf out v turns = turns
+μ-loop asked fd buf₀ out₀ rows₀ sends₀ v₀ turns₀ buf out rows sends v turns = turns
 
 loop-holds : tie.Need-loop-holds Inv-loop μ-loop
 loop-holds c = search needs
@@ -32,14 +33,26 @@ same-length c = search needs
 same-length-2 : tie.Need-same-length-2 Inv-loop μ-loop
 same-length-2 c = search needs
 
-returns : tie.Need-returns Inv-loop μ-loop
-returns c = search needs
-
 same-length-3 : tie.Need-same-length-3 Inv-loop μ-loop
 same-length-3 c = search needs
 
 same-length-4 : tie.Need-same-length-4 Inv-loop μ-loop
 same-length-4 c = search needs
+
+returns : tie.Need-returns Inv-loop μ-loop
+returns c = search needs
+
+same-length-5 : tie.Need-same-length-5 Inv-loop μ-loop
+same-length-5 c = search needs
+
+same-length-6 : tie.Need-same-length-6 Inv-loop μ-loop
+same-length-6 c = search needs
+
+same-length-7 : tie.Need-same-length-7 Inv-loop μ-loop
+same-length-7 c = search needs
+
+same-length-8 : tie.Need-same-length-8 Inv-loop μ-loop
+same-length-8 c = search needs
 
 returns-2 : tie.Need-returns-2 Inv-loop μ-loop
 returns-2 c = search needs
@@ -57,7 +70,11 @@ run-spec =
     loop-again
     same-length
     same-length-2
-    returns
     same-length-3
     same-length-4
+    returns
+    same-length-5
+    same-length-6
+    same-length-7
+    same-length-8
     returns-2)

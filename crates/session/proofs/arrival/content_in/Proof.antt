@@ -1,24 +1,9 @@
 -- `session::arrival::content_in` meets its contract: a type above 8 is business.
-use mathlib.Core.Path.{_≡_, refl, _∙_}
-use mathlib.Core.Bool.{false}
-use mathlib.Core.List.{List}
-use Prim.Native.Nat.{ℕ, _<_}
 use native.Mathlib.Omega.{arith}
-use borrow.Author.Tests.{ne-eqb}
-use lib.Dec.{eqb}
-use Rattle.session.specs.declared.arrival.Content.the-variants.{Business}
-use Rattle.session.specs.Arrival.{contentOf}
+use Rattle.session.proofs.KindLaws.{above-eight}
 use borrow.Author.Needs.{needs}
 use Rattle.session.proofs.arrival.content_in.Statement.{statement}
 use Rattle.session.proofs.arrival.content_in.Tie as tie
-
-above-eight : (kind : ℕ) (m body : List ℕ) → 8 < kind → Business ≡ contentOf kind m body
-unfolding contentOf
-above-eight kind m body h =
-    simp (not-one 0 (omega arith), not-one 1 (omega arith), not-one 2 (omega arith), not-one 3 (omega arith), not-one 4 (omega arith), not-one 5 (omega arith), not-one 6 (omega arith), not-one 7 (omega arith), not-one 8 (omega arith))
-  where
-    not-one : (n : ℕ) → n < 9 → eqb kind n ≡ false
-    not-one n l = ne-eqb kind n (λ e. omega arith)
 
 returns : tie.Need-returns
 returns c = above-eight _ _ _ (omega arith)

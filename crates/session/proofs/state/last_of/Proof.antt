@@ -1,9 +1,9 @@
--- `sheet::print::last_of` meets its contract: row by row.
+-- `session::state::last_of` meets its contract: row by row.
 use mathlib.Core.Path.{sym, ap}
 use borrow.Author.Needs.{needs}
 use Rattle.session.specs.State.{lastOf}
-use Rattle.sheet.proofs.print.last_of.Statement.{statement}
-use Rattle.sheet.proofs.print.last_of.Tie as tie
+use Rattle.session.proofs.state.last_of.Statement.{statement}
+use Rattle.session.proofs.state.last_of.Tie as tie
 
 enum-told : tie.Need-enum-told
 enum-told c = search needs

@@ -1,9 +1,9 @@
--- `sheet::print::first_of` meets its contract: row by row.
+-- `session::state::first_of` meets its contract: row by row.
 use mathlib.Core.Path.{sym, ap}
 use borrow.Author.Needs.{needs}
 use Rattle.session.specs.State.{firstOf}
-use Rattle.sheet.proofs.print.first_of.Statement.{statement}
-use Rattle.sheet.proofs.print.first_of.Tie as tie
+use Rattle.session.proofs.state.first_of.Statement.{statement}
+use Rattle.session.proofs.state.first_of.Tie as tie
 
 enum-told : tie.Need-enum-told
 enum-told c = search needs

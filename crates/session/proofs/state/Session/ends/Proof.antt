@@ -1,0 +1,12 @@
+-- `session::state::Session::ends` meets its contract: nothing is used, and nothing laid.
+use mathlib.Core.Path.{refl}
+use Rattle.session.specs.Steps.{rowNumbers, sendNumbers}
+use Rattle.session.proofs.state.Session.ends.Statement.{statement}
+use Rattle.session.proofs.state.Session.ends.Tie as tie
+
+returns : tie.Need-returns
+unfolding rowNumbers sendNumbers
+returns c = refl
+
+pub ends-spec : {M : Type 1} → statement M
+ends-spec = tie.close (tie.spec returns)

@@ -1,0 +1,189 @@
+-- Document 02, item 1: many messages in one call. The messages of a lent slice stand back to back, and each is stepped on in turn.
+use Prim.Native.Nat.{ℕ, zero, suc, _+_, _-_, _*_}
+use mathlib.Core.Bool.{Bool, false, cond}
+use mathlib.Core.List.{List, [], _∷_, _++_}
+use lib.Dec.{eqb, leb}
+use lib.ListN.{length, drop}
+use Rattle.wire.specs.Laying.{laid}
+use Rattle.message.specs.declared.read.Reading.{Reading}
+use Rattle.message.specs.declared.read.Reading.the-variants as reading
+use Rattle.message.specs.Frame.{frontLength}
+use Rattle.message.specs.Read.{readOf}
+use Rattle.message.specs.Refusal.{besidesOf}
+use Rattle.session.specs.declared.state.Answer.{Answer}
+use Rattle.session.specs.declared.state.Row.{Row}
+use Rattle.session.specs.declared.state.Send.{Send}
+use Rattle.session.specs.declared.state.Session.{Session}
+use Rattle.session.specs.declared.state.State.{State}
+use Rattle.session.specs.declared.state.State.the-variants as state
+use Rattle.session.specs.declared.state.Stepped.{Stepped}
+use Rattle.session.specs.declared.steps.Done.{Done}
+use Rattle.session.specs.declared.steps.Ended.{Ended}
+use Rattle.session.specs.declared.steps.Ended.the-variants.{Short, Down, NoSlot}
+use Rattle.session.specs.declared.steps.Next.{Next}
+use Rattle.session.specs.declared.steps.Next.the-variants.{On, Ends}
+use Rattle.session.specs.declared.steps.Turned.{Turned}
+use Rattle.session.specs.Day.{step}
+use Rattle.session.specs.State.{last, firstOf, lastOf, sortNumber, told}
+
+-- a row, where in the slice its message begins, and how long that is
+pub record Placed : Type 0 where
+  pub row : Row
+  pub at : ℕ
+  pub size : ℕ
+
+-- a step's row, if it has one, and its messages to send
+unfoldable pub rowAt : ℕ → ℕ → Row → List Placed
+rowAt at n r = cond (eqb (sortNumber r) 0) [] (record { row = r; at = at; size = n } ∷ [])
+
+unfoldable pub sendIn : Send → List Send
+sendIn x = cond (eqb (told x .kind) 0) [] (x ∷ [])
+
+unfoldable pub sendsOf : Answer → List Send
+sendsOf a = sendIn (a .first) ++ sendIn (a .second)
+
+-- as the lent lists have them: five numbers a row, four a message to send
+abbrev pub aRow : ℕ
+aRow = 5
+
+abbrev pub aSend : ℕ
+aSend = 4
+
+unfoldable pub rowNumbers : List Placed → List ℕ
+rowNumbers [] = []
+rowNumbers (w ∷ ws) = sortNumber (w .row) ∷ firstOf (w .row) ∷ lastOf (w .row) ∷ w .at ∷ w .size ∷ rowNumbers ws
+
+unfoldable pub sendNumbers : List Send → List ℕ
+sendNumbers [] = []
+sendNumbers (x ∷ xs) = told x .kind ∷ told x .number ∷ told x .first ∷ told x .second ∷ sendNumbers xs
+
+-- what some steps did, and what comes after them
+pub record Did (A : Type 0) : Type 0 where
+  pub session : Session
+  pub used : ℕ
+  pub rows : List Placed
+  pub sends : List Send
+  pub after : A
+
+-- nothing
+abbrev pub did : {A : Type 0} → Session → A → Did A
+did s after = record { session = s; used = 0; rows = []; sends = []; after = after }
+
+-- these, and then those
+unfoldable pub joined : {A B : Type 0} → Did A → Did B → Did B
+joined x y = record { session = y .session; used = x .used + y .used; rows = x .rows ++ y .rows; sends = x .sends ++ y .sends; after = y .after }
+
+-- after a step: Down ends the call, with the step's code
+unfoldable pub nextOf : State → ℕ → Next
+nextOf state.Down code = Ends (Down code)
+nextOf state.Waiting code = On
+nextOf state.Live code = On
+
+-- a step that is done, on the message at place `at` and at the front of what is left of the slice: it uses the message's Length, or no bytes if it
+-- met 2 or 3
+unfoldable pub stepDone : ℕ → List ℕ → Stepped → Did Next
+stepDone at left x = record {
+  session = x .session;
+  used = frontLength left;
+  rows = rowAt at (frontLength left) (x .answer .row);
+  sends = sendsOf (x .answer);
+  after = nextOf (x .session .state) (x .answer .code);
+}
+
+-- row and messages to send fit the r and the q numbers that are free in the lists, and the place is no more than a number can be
+unfoldable pub fits : ℕ → ℕ → ℕ → Answer → Bool
+fits at r q a =
+    cond (leb at last) (
+    cond (leb (length (rowNumbers (rowAt at 0 (a .row)))) r) (leb (length (sendNumbers (sendsOf a))) q)
+    false)
+    false
+
+-- what a Short needs, counted from its message
+unfoldable pub neededBy : Reading → ℕ
+neededBy (reading.Good h n) = 0
+neededBy (reading.Refused r) = besidesOf r
+
+-- a turn: 1 ends the call, and so does a row or a message to send without a free slot, each before the step
+unfoldable pub turnBy : ℕ → ℕ → ℕ → Session → List ℕ → Stepped → Did Next
+turnBy at r q s left x =
+    cond (eqb (x .answer .code) 1) (did s (Ends (Short (neededBy (readOf left))))) (
+    cond (fits at r q (x .answer)) (stepDone at left x)
+    (did s (Ends NoSlot)))
+
+unfoldable pub turnOf : ℕ → ℕ → ℕ → Session → List ℕ → Did Next
+turnOf at r q s left = turnBy at r q s left (step s left)
+
+-- a turn, with the numbers that it lays into each list counted
+abbrev pub turnedBy : Did Next → Turned
+turnedBy t = record { session = t .session; used = t .used; rows = length (rowNumbers (t .rows)); sends = length (sendNumbers (t .sends)); next = t .after }
+
+-- a turn, and if the call goes on the turns after it
+unfoldable pub andThen : Did Next → Next → Did Ended → Did Ended
+andThen t On others = joined t others
+andThen t (Ends why) others = record { session = t .session; used = t .used; rows = t .rows; sends = t .sends; after = why }
+
+-- those have what the turn leaves: of the slice, of the lists, and the session
+unfoldable pub follow : (ℕ → ℕ → ℕ → Session → List ℕ → Did Ended) → ℕ → ℕ → ℕ → List ℕ → Did Next → Did Ended
+follow others at r q left t =
+    andThen t (t .after)
+    (others (at + t .used) (r - length (rowNumbers (t .rows))) (q - length (sendNumbers (t .sends))) (t .session) (drop (t .used) left))
+
+-- so many turns at most; where no byte is left, 3 are needed
+unfoldable pub turns : ℕ → ℕ → ℕ → ℕ → Session → List ℕ → Did Ended
+turns zero at r q s left = did s (Short 3)
+turns (suc k) at r q s left = follow (turns k) at r q left (turnOf at r q s left)
+
+-- a turn that does not end the call uses bytes, so there are no more turns than bytes
+unfoldable pub course : ℕ → ℕ → ℕ → Session → List ℕ → Did Ended
+course at r q s left = turns (length left) at r q s left
+
+-- refusals, for lists of r and q numbers: 20 first, then 11 where not even one row and two messages to send fit
+unfoldable pub hasRoom : ℕ → ℕ → Bool
+hasRoom r q = cond (leb aRow r) (leb (2 * aSend) q) false
+
+unfoldable pub refusalIn : State → ℕ → ℕ → ℕ
+refusalIn state.Down r q = 20
+refusalIn state.Waiting r q = cond (hasRoom r q) 0 11
+refusalIn state.Live r q = cond (hasRoom r q) 0 11
+
+-- what a call does: nothing where it is refused
+unfoldable pub calledBy : ℕ → Session → List ℕ → ℕ → ℕ → Did Ended
+calledBy k s bytes r q = cond (eqb k 0) (course 0 r q s bytes) (cond (eqb k 20) (did s (Down 20)) (did s NoSlot))
+
+unfoldable pub called : Session → List ℕ → ℕ → ℕ → Did Ended
+called s bytes r q = calledBy (refusalIn (s .state) r q) s bytes r q
+
+-- the report; with 11 it says the slots that are needed
+unfoldable pub reportOf : ℕ → Did Ended → Done
+reportOf k x = record {
+  session = x .session;
+  code = k;
+  used = x .used;
+  rows = cond (eqb k 11) 1 (length (x .rows));
+  sends = cond (eqb k 11) 2 (length (x .sends));
+  ended = x .after;
+}
+
+unfoldable pub steps : Session → List ℕ → ℕ → ℕ → Done
+steps s bytes r q = reportOf (refusalIn (s .state) r q) (called s bytes r q)
+
+-- the lists afterwards
+unfoldable pub rowsAfter : Session → List ℕ → List ℕ → List ℕ → List ℕ
+rowsAfter s bytes rows sends = laid (rowNumbers (called s bytes (length rows) (length sends) .rows)) rows
+
+unfoldable pub sendsAfter : Session → List ℕ → List ℕ → List ℕ → List ℕ
+sendsAfter s bytes rows sends = laid (sendNumbers (called s bytes (length rows) (length sends) .sends)) sends
+
+-- for the laws: single steps in turn, so many, each on what the one before it left
+unfoldable pub singles : ℕ → ℕ → Session → List ℕ → Ended → Did Ended
+singles zero at s left why = did s why
+singles (suc k) at s left why =
+    joined (stepDone at left (step s left)) (singles k (at + frontLength left) (step s left .session) (drop (frontLength left) left) why)
+
+-- and the same rows for a slice that begins further on
+unfoldable pub furtherRows : ℕ → List Placed → List Placed
+furtherRows n [] = []
+furtherRows n (w ∷ ws) = record { row = w .row; at = n + w .at; size = w .size } ∷ furtherRows n ws
+
+unfoldable pub further : {A : Type 0} → ℕ → Did A → Did A
+further n x = record { session = x .session; used = x .used; rows = furtherRows n (x .rows); sends = x .sends; after = x .after }

@@ -1,0 +1,347 @@
+// Many messages in one call (document 02, item 1): the messages of a lent slice stand back to back, and each is stepped on in
+// turn. Rows and messages to send are laid as numbers into two lent lists.
+use crate::arrival::arrival_by;
+use crate::state::Answer;
+use crate::state::LAST;
+use crate::state::Row;
+use crate::state::Send;
+use crate::state::Session;
+use crate::state::State;
+use crate::state::ahead_at;
+use crate::state::first_of;
+use crate::state::last_of;
+use crate::state::sort_number;
+use crate::state::told;
+use message::frame::front_length;
+use message::read::Reading;
+use message::read::read;
+ghost use mathlib.Core.Path.{_≡_};
+ghost use mathlib.Core.List.{[], _∷_};
+ghost use Prim.Native.Nat.{ℕ, _+_, _≤_, _<_};
+ghost use lib.ListN.{length};
+ghost use Rattle.wire.specs.Laying.{laid};
+ghost use Rattle.message.specs.Frame.{frontLength};
+ghost use Rattle.message.specs.Read.{readOf};
+ghost use Rattle.session.specs.declared.state.State.the-variants as state;
+ghost use Rattle.session.specs.declared.steps.Next.the-variants.{Ends};
+ghost use Rattle.session.specs.declared.state.Send.the-variants as send;
+ghost use Rattle.session.specs.declared.state.Row.the-variants as row;
+ghost use Rattle.session.specs.State.{take};
+ghost use Rattle.session.specs.Steps.{rowAt, sendIn, sendsOf, rowNumbers, sendNumbers, did, fits, neededBy, nextOf, turnOf, turnedBy, course, hasRoom, reportOf, steps, rowsAfter, sendsAfter};
+
+// A row takes five numbers: its sort, its first and last number, where in the slice its message begins, and how long that is.
+pub const A_ROW: usize = 5;
+
+// A message to send takes four: its kind, its own number, and two values.
+pub const A_SEND: usize = 4;
+
+// The refusal of a message whose Length is right and whose checksum is not.
+const BAD_SUM: u32 = 4;
+
+// Why a call ended: no whole message was left, which needs so many bytes; a step left the session Down, with this code; or the
+// next step's row or messages to send found no free slot.
+pub enum Ended {
+    Short(usize),
+    Down(u32),
+    NoSlot,
+}
+
+// What a call did: the bytes used, the rows and the messages to send that were written, and why it ended. The code is 0, or a
+// refusal: then nothing was done, and with 11 come the slots that are needed.
+pub struct Done {
+    pub session: Session,
+    pub code: u32,
+    pub used: usize,
+    pub rows: usize,
+    pub sends: usize,
+    pub ended: Ended,
+}
+
+// After a turn.
+enum Next {
+    On,
+    Ends(Ended),
+}
+
+// What a turn adds: the bytes used, and how many numbers it laid into each list.
+struct Turned {
+    session: Session,
+    used: usize,
+    rows: usize,
+    sends: usize,
+    next: Next,
+}
+
+// The numbers of a row, over the first of d.
+fn lay_row(d: &mut [u32], row: Row, at: usize, size: usize)
+    requires { ⌜ (5 ≤ length (now d)) × (at ≤ 4294967295) × (size ≤ 4096) ⌝ }
+    ensures { λ _. ⌜ now (d .exit) ≡ laid (rowNumbers (record { row = row; at = at; size = size } ∷ [])) (now (d .entry)) ⌝ }
+{
+    d[0] = sort_number(row);
+    d[1] = first_of(row);
+    d[2] = last_of(row);
+    d[3] = at as u32;
+    d[4] = size as u32;
+}
+
+// A step's row, if it has one, at the front of d: how many numbers that are.
+fn put_row(d: &mut [u32], row: Row, at: usize, size: usize) -> usize
+    requires { ⌜ (length (rowNumbers (rowAt at size row)) ≤ length (now d)) × (at ≤ 4294967295) × (size ≤ 4096) ⌝ }
+    ensures { λ r. ⌜ (r ≡ length (rowNumbers (rowAt at size row))) × (now (d .exit) ≡ laid (rowNumbers (rowAt at size row)) (now (d .entry))) ⌝ }
+{
+    if sort_number(row) == 0 {
+        return 0;
+    }
+    lay_row(d, row, at, size);
+    A_ROW
+}
+
+// The numbers of a message to send, over the first of d.
+fn lay_send(d: &mut [u32], send: Send)
+    requires { ⌜ 4 ≤ length (now d) ⌝ }
+    ensures { λ _. ⌜ now (d .exit) ≡ laid (sendNumbers (send ∷ [])) (now (d .entry)) ⌝ }
+{
+    let t = told(send);
+    d[0] = t.kind;
+    d[1] = t.number;
+    d[2] = t.first;
+    d[3] = t.second;
+}
+
+// A message to send, if there is one, at the front of d: how many numbers that are.
+fn put_send(d: &mut [u32], send: Send) -> usize
+    requires { ⌜ length (sendNumbers (sendIn send)) ≤ length (now d) ⌝ }
+    ensures { λ r. ⌜ (r ≡ length (sendNumbers (sendIn send))) × (now (d .exit) ≡ laid (sendNumbers (sendIn send)) (now (d .entry))) ⌝ }
+{
+    if told(send).kind == 0 {
+        return 0;
+    }
+    lay_send(d, send);
+    A_SEND
+}
+
+// A step's messages to send, in order.
+fn put_sends(d: &mut [u32], answer: Answer) -> usize
+    requires { ⌜ length (sendNumbers (sendsOf answer)) ≤ length (now d) ⌝ }
+    ensures { λ r. ⌜ (r ≡ length (sendNumbers (sendsOf answer))) × (now (d .exit) ≡ laid (sendNumbers (sendsOf answer)) (now (d .entry))) ⌝ }
+{
+    let first = answer.first;
+    let second = answer.second;
+    let laid = put_send(d, first);
+    laid + put_send(&mut d[laid..], second)
+}
+
+fn row_room(row: Row) -> usize
+    ensures { λ r. ⌜ ((at size : ℕ) → r ≡ length (rowNumbers (rowAt at size row))) × (r ≤ 5) ⌝ }
+{
+    if sort_number(row) == 0 { 0 } else { A_ROW }
+}
+
+fn send_room(send: Send) -> usize
+    ensures { λ r. ⌜ (r ≡ length (sendNumbers (sendIn send))) × (r ≤ 4) ⌝ }
+{
+    if told(send).kind == 0 { 0 } else { A_SEND }
+}
+
+// Whether what a step gives finds its slots, where so many numbers are free in each list.
+fn is_fitting(at: usize, rows: usize, sends: usize, answer: Answer) -> bool
+    ensures { λ r. ⌜ r ≡ fits at rows sends answer ⌝ }
+{
+    let row = answer.row;
+    let first = answer.first;
+    let second = answer.second;
+    if (LAST as usize) < at {
+        return false;
+    }
+    if rows < row_room(row) {
+        return false;
+    }
+    send_room(first) + send_room(second) <= sends
+}
+
+// How many bytes a Short needs.
+fn needed_by(reading: Reading) -> usize
+    ensures { λ r. ⌜ r ≡ neededBy reading ⌝ }
+{
+    match reading {
+        Reading::Good {
+            header: _,
+            length: _,
+        } => 0,
+        Reading::Refused(refusal) => refusal.besides(),
+    }
+}
+
+// What a step uses on the message at the front of s, which was read: no bytes where it met 1, 2 or 3, else the Length.
+fn used_by(reading: Reading, s: &[u8]) -> usize
+    requires { ⌜ reading ≡ readOf (now s) ⌝ }
+    ensures { λ r. ⌜ (r ≡ frontLength (now (s .entry))) × (r ≤ length (now (s .entry))) × (r ≤ 4096) ⌝ }
+{
+    match reading {
+        Reading::Good { header: _, length } => length,
+        Reading::Refused(refusal) => {
+            if refusal.number() < BAD_SUM {
+                0
+            } else {
+                front_length(s)
+            }
+        }
+    }
+}
+
+fn next_of(state: State, code: u32) -> Next
+    ensures { λ r. ⌜ r ≡ nextOf state code ⌝ }
+{
+    match state {
+        State::Down => Next::Ends(Ended::Down(code)),
+        State::Waiting => Next::On,
+        State::Live => Next::On,
+    }
+}
+
+// Whether one row and two messages to send fit lists of so many numbers.
+fn has_room(rows: usize, sends: usize) -> bool
+    ensures { λ r. ⌜ r ≡ hasRoom rows sends ⌝ }
+{
+    if rows < A_ROW {
+        return false;
+    }
+    2 * A_SEND <= sends
+}
+
+impl Session {
+    // Business in its turn is taken.
+    fn takes_business(self) -> Session
+        requires { ⌜ (self .expected) < 4294967295 ⌝ }
+        ensures { λ r. ⌜ r ≡ take self (self .expected + 1) (self .own) send.Nothing (row.Business (self .expected)) .session ⌝ }
+    {
+        let e = self.expected;
+        let o = self.own;
+        let m = ahead_at(self.ahead, e + 1);
+        self.moved(State::Live, e + 1, o, m)
+    }
+
+    fn ends(self, ended: Ended) -> Turned
+        ensures { λ r. ⌜ r ≡ turnedBy (did self (Ends ended)) ⌝ }
+    {
+        Turned {
+            session: self,
+            used: 0,
+            rows: 0,
+            sends: 0,
+            next: Next::Ends(ended),
+        }
+    }
+
+    // One turn, by the rules, on the message at the front of s, which was read and stands at this place of the slice; `rows` and
+    // `sends` are what is free of the lists.
+    fn turn(
+        self,
+        s: &[u8],
+        reading: Reading,
+        at: usize,
+        rows: &mut [u32],
+        sends: &mut [u32],
+    ) -> Turned
+        requires { ⌜ (reading ≡ readOf (now s)) × (self .state ≡ state.Down → ⊥) ⌝ }
+        ensures { λ r. ⌜ (r ≡ turnedBy (turnOf at (length (now (rows .entry))) (length (now (sends .entry))) self (now (s .entry)))) × (now (rows .exit) ≡ laid (rowNumbers (turnOf at (length (now (rows .entry))) (length (now (sends .entry))) self (now (s .entry)) .rows)) (now (rows .entry))) × (now (sends .exit) ≡ laid (sendNumbers (turnOf at (length (now (rows .entry))) (length (now (sends .entry))) self (now (s .entry)) .sends)) (now (sends .entry))) ⌝ }
+    {
+        let ours = self.ours;
+        let stepped = self.arrived(arrival_by(&ours, s, reading));
+        let session = stepped.session;
+        let state = session.state;
+        let answer = stepped.answer;
+        let row = answer.row;
+        if answer.code == 1 {
+            return self.ends(Ended::Short(needed_by(reading)));
+        }
+        if !is_fitting(at, rows.len(), sends.len(), answer) {
+            return self.ends(Ended::NoSlot);
+        }
+        let used = used_by(reading, s);
+        let laid = put_row(rows, row, at, used);
+        let sent = put_sends(sends, answer);
+        Turned {
+            session,
+            used,
+            rows: laid,
+            sends: sent,
+            next: next_of(state, answer.code),
+        }
+    }
+
+    fn report(self, code: u32, used: usize, rows: usize, sends: usize, ended: Ended) -> Done
+        ensures { λ r. ⌜ (r .session ≡ self) × (r .code ≡ code) × (r .used ≡ used) × (r .rows ≡ rows) × (r .sends ≡ sends) × (r .ended ≡ ended) ⌝ }
+    {
+        Done {
+            session: self,
+            code,
+            used,
+            rows,
+            sends,
+            ended,
+        }
+    }
+
+    // All turns. Business in its turn, which most messages of a day are, is taken at once: the rules would do no more.
+    fn run(self, s: &[u8], rows: &mut [u32], sends: &mut [u32]) -> Done
+        requires { ⌜ (self .state ≡ state.Down → ⊥) ⌝ }
+        ensures { λ r. ⌜ (r ≡ reportOf 0 (course 0 (length (now (rows .entry))) (length (now (sends .entry))) self (now (s .entry)))) × (now (rows .exit) ≡ laid (rowNumbers (course 0 (length (now (rows .entry))) (length (now (sends .entry))) self (now (s .entry)) .rows)) (now (rows .entry))) × (now (sends .exit) ≡ laid (sendNumbers (course 0 (length (now (rows .entry))) (length (now (sends .entry))) self (now (s .entry)) .sends)) (now (sends .entry))) ⌝ }
+    {
+        let mut session = self;
+        let mut used: usize = 0;
+        let mut row_at: usize = 0;
+        let mut send_at: usize = 0;
+        loop {
+            let rest = &s[used..];
+            let reading = read(rest);
+            let size = session.due_length(rest, reading);
+            if size != 0 && used <= LAST as usize && A_ROW <= rows.len() - row_at {
+                let e = session.expected;
+                row_at += put_row(&mut rows[row_at..], Row::Business(e), used, size);
+                used += size;
+                session = session.takes_business();
+                continue;
+            }
+            let turned = session.turn(
+                rest,
+                reading,
+                used,
+                &mut rows[row_at..],
+                &mut sends[send_at..],
+            );
+            let next = turned.next;
+            session = turned.session;
+            used += turned.used;
+            row_at += turned.rows;
+            send_at += turned.sends;
+            match next {
+                Next::On => {}
+                Next::Ends(ended) => return session.report(
+                    0,
+                    used,
+                    row_at / A_ROW,
+                    send_at / A_SEND,
+                    ended,
+                ),
+            }
+        }
+    }
+
+    // The messages of s, back to back, each stepped on in turn; their rows at the front of `rows` and their messages to send at
+    // the front of `sends`. Refusals, which do nothing: 20, and 11 where not even one row and two messages to send fit.
+    pub fn steps(self, s: &[u8], rows: &mut [u32], sends: &mut [u32]) -> Done
+        ensures { λ r. ⌜ (r ≡ steps self (now (s .entry)) (length (now (rows .entry))) (length (now (sends .entry)))) × (now (rows .exit) ≡ rowsAfter self (now (s .entry)) (now (rows .entry)) (now (sends .entry))) × (now (sends .exit) ≡ sendsAfter self (now (s .entry)) (now (rows .entry)) (now (sends .entry))) ⌝ }
+    {
+        let state = self.state;
+        match state {
+            State::Down => return self.report(20, 0, 0, 0, Ended::Down(20)),
+            State::Waiting => {}
+            State::Live => {}
+        }
+        if !has_room(rows.len(), sends.len()) {
+            return self.report(11, 0, 1, 2, Ended::NoSlot);
+        }
+        self.run(s, rows, sends)
+    }
+}
