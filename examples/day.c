@@ -5,7 +5,8 @@
  *     day CAPTURE..        a file for each connection, the bytes as the gateway sent them
  *
  * Prints a line an account row, of each execution report the order and its filled and open shares, what would be sent, and
- * how each call ended. A real recorder reads a socket in place of the files and writes what is sent to it.
+ * how each call ended, with what is returned besides: the bytes that the next message needs, or where a message that stopped the
+ * session is wrong. A real recorder reads a socket in place of the files and writes what is sent to it.
  */
 #include "featherloom.h"
 
@@ -15,6 +16,9 @@
 
 static const char COMP_ID[] = "CO99999901";
 static const char PASSWORD[] = "encrypted elsewhere";
+
+/* No message is longer. */
+enum { MESSAGE_MOST = 4096 };
 
 static const uint8_t *bytes_of(const char *text) { return (const uint8_t *)text; }
 
@@ -45,11 +49,13 @@ static void print_decimal(const char *label, const uint64_t *field) {
     }
 }
 
-/* One call reads the report and gives the places of all its fields. */
+/* One call reads the message and gives the places of all its fields. The other business messages tell of no order. */
 static void print_report(const uint8_t *bytes, size_t count) {
     uint64_t numbers[FEATHERLOOM_FIELDS_ROOM];
     featherloom_listed listed = featherloom_fields(bytes, count, numbers, FEATHERLOOM_FIELDS_ROOM);
     size_t fields = listed.fields;
+    if (listed.reading.message_type != FEATHERLOOM_TYPE_EXECUTION_REPORT)
+        return;
     printf(" ");
     print_text("order", bytes, field_at(numbers, fields, FEATHERLOOM_EXECUTION_REPORT_ORDER_ID));
     print_decimal("filled", field_at(numbers, fields, FEATHERLOOM_EXECUTION_REPORT_CUMULATIVE_QUANTITY));
@@ -59,25 +65,31 @@ static void print_report(const uint8_t *bytes, size_t count) {
 
 /* Lays a message to send down as bytes, and reads it back: what the gateway would read. */
 static void send_it(featherloom_session session, featherloom_send send) {
-    uint8_t buffer[4096];
+    uint8_t buffer[MESSAGE_MOST];
     featherloom_written written = featherloom_put(buffer, sizeof buffer, session, send);
-    if (written.length == 0)
+    if (written.refusal != FEATHERLOOM_OK) {
+        printf("  send refused=%u besides=%zu\n", written.refusal, written.besides);
         return;
+    }
     featherloom_reading reading = featherloom_read(buffer, written.length);
-    printf("  send type=%u number=%u possdup=%u length=%zu refusal=%u\n", reading.kind, reading.number, reading.possdup,
+    printf("  send type=%u number=%u possdup=%u length=%zu refusal=%u\n", reading.message_type, reading.number, reading.possdup,
            reading.length, reading.refusal);
 }
 
+/* The session that comes back may be kept even where Connect refuses: it is then the one that was given. */
 static featherloom_session connect_it(featherloom_session session) {
-    uint8_t buffer[4096];
+    uint8_t buffer[MESSAGE_MOST];
     featherloom_connected connected = featherloom_connect(session, bytes_of(PASSWORD), strlen(PASSWORD));
     if (connected.refusal != FEATHERLOOM_OK) {
         printf("connect refused=%u\n", connected.refusal);
         return connected.session;
     }
-    featherloom_written written = featherloom_put_logon(buffer, sizeof buffer, connected.session, connected.number,
-                                                        bytes_of(PASSWORD), strlen(PASSWORD), connected.next);
-    printf("connect number=%u next=%u length=%zu\n", connected.number, connected.next, written.length);
+    featherloom_written written =
+        featherloom_put_logon(buffer, sizeof buffer, connected.session, bytes_of(PASSWORD), strlen(PASSWORD));
+    if (written.refusal != FEATHERLOOM_OK)
+        printf("logon refused=%u besides=%zu\n", written.refusal, written.besides);
+    else
+        printf("connect number=%u next=%u length=%zu\n", connected.number, connected.next, written.length);
     return connected.session;
 }
 
@@ -102,8 +114,8 @@ static featherloom_session follow(featherloom_session session, const uint8_t *by
         for (size_t i = 0; i < done.sends; i++)
             send_it(session, sends[i]);
         at += done.used;
-        printf("at=%zu refusal=%u ended=%s code=%u needed=%zu next=%u\n", at, done.refusal, ends[done.ended], done.code,
-               done.needed, session.expected);
+        printf("at=%zu refusal=%u ended=%s code=%u besides=%zu next=%u\n", at, done.refusal, ends[done.ended], done.code,
+               done.besides, session.expected);
         if (done.ended == FEATHERLOOM_ENDED_SHORT)
             return featherloom_drop(session).session; /* no more bytes will come: the line is gone */
         if (done.ended != FEATHERLOOM_ENDED_NO_SLOT || done.refusal != FEATHERLOOM_OK)
@@ -130,7 +142,15 @@ int main(int count, char **names) {
         fprintf(stderr, "usage: day CAPTURE..\n");
         return 2;
     }
+    if (featherloom_version() != FEATHERLOOM_VERSION) {
+        fprintf(stderr, "day: compiled for version %d, linked with %u\n", FEATHERLOOM_VERSION, featherloom_version());
+        return 1;
+    }
     featherloom_made made = featherloom_fresh(bytes_of(COMP_ID), strlen(COMP_ID));
+    if (made.refusal != FEATHERLOOM_OK) {
+        fprintf(stderr, "day: Comp ID refused=%u\n", made.refusal);
+        return 1;
+    }
     featherloom_session session = made.session;
     for (int i = 1; i < count; i++) {
         size_t size = 0;

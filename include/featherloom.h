@@ -6,8 +6,15 @@
  * blocks, and each refuses bad input itself, with a number. A refusal writes nothing. There is no global state, so calls
  * from several threads do not disturb each other.
  *
- * Lent bytes are a pointer and a length. A length of 0 may come with any pointer, NULL too.
- * "Document 01" is the rules that Featherloom follows; docs/PROMISES.md says what each function promises.
+ * What is lent is a pointer and a length. Two things no function can see, and they are left to the caller:
+ * - With a length of 0 any pointer will do, NULL too. With any other length it is not NULL. The `map` of featherloom_write has no
+ *   length, but 32 bytes always, and is never NULL.
+ * - What is lent to one call does not overlap. A body inside the buffer that is written, for one, gives an unreadable message
+ *   with refusal 0.
+ *
+ * "004" is HKEX's paper "Interface Specifications, HKEX Orion Central Gateway - Securities Market (OCG-C), Binary Drop Copy
+ * Protocol", version 3.2 of 19 July 2023. "Document 01" is the rules that Featherloom follows; docs/RULES.md explains them, and
+ * docs/PROMISES.md says what each function promises.
  */
 #ifndef FEATHERLOOM_H
 #define FEATHERLOOM_H
@@ -20,7 +27,20 @@ extern "C" {
 #endif
 
 /*
- * Refusals. `besides` holds what is returned with them; it is 0 where nothing is said here.
+ * The version of this header. The library that was linked tells its own as one number, made as FEATHERLOOM_VERSION is. Compare
+ * the two before any other call: where they differ, structs and functions may differ as well.
+ */
+#define FEATHERLOOM_VERSION_MAJOR 2
+#define FEATHERLOOM_VERSION_MINOR 0
+#define FEATHERLOOM_VERSION_PATCH 0
+#define FEATHERLOOM_VERSION \
+    (10000 * FEATHERLOOM_VERSION_MAJOR + 100 * FEATHERLOOM_VERSION_MINOR + FEATHERLOOM_VERSION_PATCH)
+
+uint32_t featherloom_version(void);
+
+/*
+ * Refusals. `besides` holds what is returned with them. It is 0 where nothing is said here, and where there is no refusal: only
+ * featherloom_done has more to say.
  */
 enum {
     FEATHERLOOM_OK = 0,
@@ -51,11 +71,28 @@ enum {
     FEATHERLOOM_STOP_LAST = 36,       /* stopped: the gateway's numbers are used up */
     FEATHERLOOM_BAD_REQUEST = 40,     /* a plan's list, Start or End is bad */
     FEATHERLOOM_NOT_A_SESSION = 90,   /* no day has such a session: it comes back as it was */
-    FEATHERLOOM_NOT_A_SEND = 91       /* no session gives such a message to send */
+    FEATHERLOOM_NOT_A_SEND = 91       /* no session gives such a message to send; of a Logon: this session has none to send */
 };
 
 /*
- * Positions of the fields, by message type and name (004 sections 7.6, 7.7, 7.8 and 7.11).
+ * The message types (004 sections 7.6, 7.7, 7.8 and 7.11).
+ */
+enum {
+    FEATHERLOOM_TYPE_HEARTBEAT = 0,
+    FEATHERLOOM_TYPE_TEST_REQUEST = 1,
+    FEATHERLOOM_TYPE_RESEND_REQUEST = 2,
+    FEATHERLOOM_TYPE_REJECT = 3,
+    FEATHERLOOM_TYPE_SEQUENCE_RESET = 4,
+    FEATHERLOOM_TYPE_LOGON = 5,
+    FEATHERLOOM_TYPE_LOGOUT = 6,
+    FEATHERLOOM_TYPE_LOOKUP_REQUEST = 7,
+    FEATHERLOOM_TYPE_LOOKUP_RESPONSE = 8,
+    FEATHERLOOM_TYPE_BUSINESS_MESSAGE_REJECT = 9,
+    FEATHERLOOM_TYPE_EXECUTION_REPORT = 10
+};
+
+/*
+ * Positions of the fields, by message type and name. BUSINESS_REJECT stands here for Business Message Reject.
  */
 /* positions: begin */
 #define FEATHERLOOM_HEARTBEAT_REFERENCE_TEST_REQUEST_ID 0
@@ -137,18 +174,21 @@ enum {
  * Reading. Only the message at the front of the bytes is looked at.
  */
 
-/* A good message (refusal 0): its type, number and flags, and how many bytes it has. */
+/*
+ * A good message (refusal 0): its type, one of FEATHERLOOM_TYPE_.., its number and flags, and how many bytes it has. On a
+ * refusal they are 0.
+ */
 typedef struct featherloom_reading {
     uint32_t refusal;
     uint32_t number;
     size_t besides;
     size_t length;
-    uint8_t kind; /* the message type */
+    uint8_t message_type;
     uint8_t possdup;
     uint8_t possresend;
 } featherloom_reading;
 
-/* A part of the caller's bytes, from `offset` on; of length 0 on a refusal. */
+/* A part of the caller's bytes: so many from `offset` on. On a refusal both are 0. */
 typedef struct featherloom_part {
     uint32_t refusal;
     size_t besides;
@@ -158,7 +198,10 @@ typedef struct featherloom_part {
 
 enum { FEATHERLOOM_NUMBER = 1, FEATHERLOOM_DECIMAL = 2, FEATHERLOOM_TEXT = 3 };
 
-/* A number, or a Decimal: a count of hundred-millionths. sort says which; it is 0 on a refusal. */
+/*
+ * A number, or a Decimal: a count of hundred-millionths. `sort` says which, and the member of the other sort is 0. On a
+ * refusal all three are 0.
+ */
 typedef struct featherloom_value {
     uint32_t refusal;
     uint32_t sort;
@@ -217,14 +260,15 @@ uint32_t featherloom_crc32c(const uint8_t *bytes, size_t count);
  * Writing.
  */
 
+/* The message's type, one of FEATHERLOOM_TYPE_.., its flags and number. */
 typedef struct featherloom_header {
-    uint8_t kind;
+    uint8_t message_type;
     uint8_t possdup;
     uint8_t possresend;
     uint32_t number;
 } featherloom_header;
 
-/* How many bytes were written at the front of the buffer. On a refusal the buffer is as it was. */
+/* How many bytes were written at the front of the buffer. On a refusal it is 0, and the buffer is as it was. */
 typedef struct featherloom_written {
     uint32_t refusal;
     size_t besides;
@@ -233,7 +277,8 @@ typedef struct featherloom_written {
 
 /*
  * Writes the message in plain form: header values, the Comp ID's characters (no null), a map of 32 bytes, and the fields
- * in wire form. Refusals 5 to 10, 12, 11. At most 4,096 bytes are needed.
+ * in wire form. Refusals 5 to 10, 12, 11. At most 4,096 bytes are needed. `map` is never NULL, and none of the three stands
+ * inside the buffer.
  */
 featherloom_written featherloom_write(uint8_t *buffer, size_t room, featherloom_header header, const uint8_t *comp_id,
                                       size_t comp_id_count, const uint8_t map[32], const uint8_t *body,
@@ -252,7 +297,11 @@ featherloom_written featherloom_decimal_text(uint8_t *buffer, size_t room, int64
  * The session of one day. It is a value: give it to a call, keep the one that comes back. Every call checks it first, and
  * refuses with FEATHERLOOM_NOT_A_SESSION a session that no day has. One that some day has: the state is 0, 1 or 2; the Comp
  * ID has 1 to 11 characters and then zeros; E is at least 1; O is at least 1 if Down, else 2; M is 0, or the session is Live,
- * M is at least 2 and at least E, and O is at least 3. A session that a call gave beside refusal 0 is always one.
+ * M is at least 2 and at least E, and O is at least 3.
+ *
+ * What a call gives back may be kept, beside a refusal too. After a Stop it is a session like any other: it is Down, and
+ * Connect may be called on it. Where a call changes nothing it is the session that was given. Only featherloom_fresh and
+ * featherloom_saved give, on a refusal, one that no day has.
  */
 
 enum { FEATHERLOOM_STATE_DOWN = 0, FEATHERLOOM_STATE_WAITING = 1, FEATHERLOOM_STATE_LIVE = 2 };
@@ -271,23 +320,30 @@ typedef struct featherloom_made {
     featherloom_session session;
 } featherloom_made;
 
-/* The Logon to send has this number and this Next Expected: featherloom_put_logon makes its bytes. */
+/*
+ * The Logon to send has this number and this Next Expected: featherloom_put_logon makes its bytes from the new session. On a
+ * refusal both are 0. `besides` is always 0: the one refusal that has a position, 9, has position 0.
+ */
 typedef struct featherloom_connected {
     uint32_t refusal;
     featherloom_session session;
     uint32_t number;
     uint32_t next;
+    size_t besides;
 } featherloom_connected;
 
 enum {
     FEATHERLOOM_SEND_NONE = 0,
-    FEATHERLOOM_SEND_HEARTBEAT = 1,     /* first: the ID that it answers */
+    FEATHERLOOM_SEND_HEARTBEAT = 1,     /* first: the ID that it answers, at most 65,535 */
     FEATHERLOOM_SEND_LOGOUT = 2,
-    FEATHERLOOM_SEND_GAP_FILL = 3,      /* number: the first number it covers; first: New Sequence Number */
-    FEATHERLOOM_SEND_RESEND_REQUEST = 4 /* first: Start Sequence; second: End Sequence */
+    FEATHERLOOM_SEND_GAP_FILL = 3,      /* number: the first number it covers, at least 1; first: New Sequence Number, above it */
+    FEATHERLOOM_SEND_RESEND_REQUEST = 4 /* first: Start Sequence, 1 to 4,294,967,294; second: End Sequence, always 0: all */
 };
 
-/* A message to send: featherloom_put makes its bytes. */
+/*
+ * A message to send: featherloom_put makes its bytes. Heartbeat, Logout and Resend Request have one of our numbers, 2 to
+ * 4,294,967,294. Members of which nothing is said are 0.
+ */
 typedef struct featherloom_send {
     uint32_t kind;
     uint32_t number;
@@ -313,7 +369,10 @@ typedef struct featherloom_row {
 /*
  * A step's answer: refusal 0, or why the message changed nothing (1, 4, 20, 90) or the session stopped (the others); the
  * new session; two messages to send, in order; a row; and how many bytes the message has that the step looked at: 0 for
- * 1, 2, 3, 20 and 90. After 1, come again with more bytes.
+ * 1, 2, 3, 20 and 90. After 1, come again with more bytes. A Down session answers 20 before the bytes are looked at.
+ *
+ * `besides` is what the reader returns: for 1 how many bytes are needed in all, for 4 the Length, for 7, 8 and 9 the position,
+ * for 10 how many bytes are left over, else 0.
  */
 typedef struct featherloom_stepped {
     uint32_t refusal;
@@ -322,6 +381,7 @@ typedef struct featherloom_stepped {
     featherloom_send second;
     featherloom_row row;
     size_t used;
+    size_t besides;
 } featherloom_stepped;
 
 /* A fresh day for our Comp ID (characters, no null): Down, E = O = 1. Refusal 6. */
@@ -362,8 +422,12 @@ typedef struct featherloom_placed {
 enum { FEATHERLOOM_A_ROW = 5, FEATHERLOOM_A_SEND = 4 };
 
 /*
- * What was done. On a refusal (90, 20, 11) nothing is: the session is as it was, `used` is 0 and no list is written. With 20 the
- * call has ended as Down; with 11 as having no slot, and `rows` and `sends` say how many slots are needed; with 90 `ended` is 0.
+ * What was done. On a refusal (90, 20, 11) nothing is: the session is as it was, `used` and `besides` are 0 and no list is
+ * written. With 20 the call has ended as Down; with 11 as having no slot, and `rows` and `sends` say how many slots are needed;
+ * with 90 `ended` is 0.
+ *
+ * `besides` belongs to the step that ended the call. Ended as Short: how many bytes the message needs, counted from its first.
+ * Ended as Down: what the reader returned besides `code`, as in featherloom_stepped. Else 0.
  */
 typedef struct featherloom_done {
     uint32_t refusal;
@@ -373,7 +437,7 @@ typedef struct featherloom_done {
     size_t sends;   /* messages to send written, at the front of theirs, in order; none is FEATHERLOOM_SEND_NONE */
     uint32_t ended;
     uint32_t code;  /* ended as Down: what that step answered, 20 if the session was Down before; else 0 */
-    size_t needed;  /* ended as Short: how many bytes the message needs, counted from its first; else 0 */
+    size_t besides;
 } featherloom_done;
 
 /*
@@ -381,7 +445,7 @@ typedef struct featherloom_done {
  * as the members of their structs stand. Refusals 90, 20; then 11 where not even one row and two messages to send fit. A step
  * needs slots for what it gives, and no more. A message whose offset is above 4,294,967,295 finds no slot. What stands in a list
  * behind what was written is as it was. Where no slot was left, empty the lists and call again with the new session and the bytes
- * from `used` on. A message that stopped the session has no row and may send nothing: `ended` and `code` tell of it.
+ * from `used` on. A message that stopped the session has no row and may send nothing: `ended`, `code` and `besides` tell of it.
  */
 featherloom_done featherloom_steps_flat(featherloom_session session, const uint8_t *bytes, size_t count, uint32_t *rows,
                                         size_t row_room, uint32_t *sends, size_t send_room);
@@ -394,12 +458,20 @@ static inline featherloom_done featherloom_steps(featherloom_session session, co
                                   (uint32_t *)sends, FEATHERLOOM_A_SEND * send_slots);
 }
 
-/* A message to send, as bytes for the session's Comp ID; none for FEATHERLOOM_SEND_NONE. Refusals 90, 91, 6, 11. */
+/*
+ * A message to send, as bytes for the session's Comp ID; none for FEATHERLOOM_SEND_NONE. Refusals in this order: 90; 91 for
+ * every value that no step of any session can give, and for no other; 11 with the length needed.
+ */
 featherloom_written featherloom_put(uint8_t *buffer, size_t room, featherloom_session session, featherloom_send send);
 
-/* Connect's Logon, as bytes. Refusals 90, 9, 6, 11. */
-featherloom_written featherloom_put_logon(uint8_t *buffer, size_t room, featherloom_session session, uint32_t number,
-                                          const uint8_t *password, size_t count, uint32_t next);
+/*
+ * Connect's Logon, as bytes, from the session that Connect gave: its number is O - 1 and its Next Expected is E. The password is
+ * the one that Connect took. Refusals in this order: 90; 91 where the session is not Waiting, so that it has not just connected;
+ * 9 for a password that the text writer does not take (more than 449 characters, or one outside 32 to 126); 11 with the length
+ * needed.
+ */
+featherloom_written featherloom_put_logon(uint8_t *buffer, size_t room, featherloom_session session, const uint8_t *password,
+                                          size_t count);
 
 /*
  * The resend plan of a gateway, for a test bench.
@@ -429,7 +501,7 @@ featherloom_planned featherloom_plan(const uint8_t *list, size_t count, uint32_t
 /* The library is built for these layouts. */
 FEATHERLOOM_ASSERT(sizeof(size_t) == 8);
 FEATHERLOOM_ASSERT(sizeof(featherloom_reading) == 32);
-FEATHERLOOM_ASSERT(offsetof(featherloom_reading, kind) == 24);
+FEATHERLOOM_ASSERT(offsetof(featherloom_reading, message_type) == 24);
 FEATHERLOOM_ASSERT(sizeof(featherloom_part) == 32);
 FEATHERLOOM_ASSERT(sizeof(featherloom_value) == 32);
 FEATHERLOOM_ASSERT(sizeof(featherloom_listed) == 40);
@@ -438,15 +510,18 @@ FEATHERLOOM_ASSERT(offsetof(featherloom_header, number) == 4);
 FEATHERLOOM_ASSERT(sizeof(featherloom_written) == 24);
 FEATHERLOOM_ASSERT(sizeof(featherloom_session) == 28);
 FEATHERLOOM_ASSERT(sizeof(featherloom_made) == 32);
-FEATHERLOOM_ASSERT(sizeof(featherloom_connected) == 40);
+FEATHERLOOM_ASSERT(sizeof(featherloom_connected) == 48);
+FEATHERLOOM_ASSERT(offsetof(featherloom_connected, besides) == 40);
 FEATHERLOOM_ASSERT(sizeof(featherloom_send) == 16);
 FEATHERLOOM_ASSERT(sizeof(featherloom_row) == 12);
-FEATHERLOOM_ASSERT(sizeof(featherloom_stepped) == 88);
+FEATHERLOOM_ASSERT(sizeof(featherloom_stepped) == 96);
 FEATHERLOOM_ASSERT(offsetof(featherloom_stepped, used) == 80);
+FEATHERLOOM_ASSERT(offsetof(featherloom_stepped, besides) == 88);
 FEATHERLOOM_ASSERT(sizeof(featherloom_placed) == 4 * FEATHERLOOM_A_ROW);
 FEATHERLOOM_ASSERT(sizeof(featherloom_send) == 4 * FEATHERLOOM_A_SEND);
 FEATHERLOOM_ASSERT(sizeof(featherloom_done) == 72);
 FEATHERLOOM_ASSERT(offsetof(featherloom_done, ended) == 56);
+FEATHERLOOM_ASSERT(offsetof(featherloom_done, besides) == 64);
 FEATHERLOOM_ASSERT(sizeof(featherloom_planned) == 16);
 #undef FEATHERLOOM_ASSERT
 

@@ -95,6 +95,8 @@ def files():
 
 
 if __name__ == "__main__":
+    if sys.argv[1:] not in ([], ["--write"]):
+        sys.exit("usage: tools/crc_rows.py [--write]")
     for path, text in files():
         if sys.argv[1:] == ["--write"]:
             path.parent.mkdir(parents=True, exist_ok=True)

@@ -31,6 +31,8 @@ def expected():
 
 
 if __name__ == "__main__":
+    if sys.argv[1:] not in ([], ["--write"]):
+        sys.exit("usage: tools/header_positions.py [--write]")
     if sys.argv[1:] == ["--write"]:
         HEADER.write_text(expected())
     elif HEADER.read_text() != expected():

@@ -1,5 +1,6 @@
 #!/usr/bin/env python3
-"""Turns the sheet that the program layoutsheet prints into docs/LAYOUT.md: a table for each message type.
+"""Turns the sheet that the program layoutsheet prints into docs/LAYOUT.md: a table for each message type,
+and one for each of the nine tables of an Execution Report.
 
     tools/layout_page.py > docs/LAYOUT.md
 """
@@ -20,30 +21,50 @@ TYPES = {
     9: ("Business Message Reject", "7.11.1"),
     10: ("Execution Report", "7.8, the nine tables together"),
 }
-LINE = re.compile(r"type=(\d+) position=(\d+) name=(.*) sort=(\w+) width=(\d+) required=([YN])")
+REPORTS = {
+    "7.8.1": "Order Accepted",
+    "7.8.2": "Order Cancelled",
+    "7.8.3": "Order Cancelled, Unsolicited",
+    "7.8.4": "Order Expired",
+    "7.8.5": "Order Amended",
+    "7.8.6": "Auto-matched Trade",
+    "7.8.7": "Auto-matched Trade Cancel",
+    "7.8.8": "Trade (Odd lot/Special lot Order Executed)",
+    "7.8.9": "Trade (Semi-auto-matched Trade Cancelled)",
+}
+LINE = re.compile(r"(type|table)=([\d.]+) position=(\d+) name=(.*) sort=(\w+) width=(\d+) required=([YN])")
 
 HEAD = """# The layout sheet
 
 What the proved tables say of each message type, to be laid beside 004. The program `layoutsheet` prints the same lines
 from the tables themselves, and the gate holds this page to what it prints. Names and widths are those of 004 section
 8.2; the width of a variable text is the most that its length may say, null counted. A report's position is required
-where all nine tables of section 7.8 require it.
+where all nine tables of section 7.8 require it; the nine follow at the end, one by one, each with its own positions and
+required marks.
 """
 
 
 def page(sheet):
-    rows = {}
+    types, tables = {}, {}
     for line in sheet.splitlines():
-        kind, position, name, sort, width, required = LINE.fullmatch(line).groups()
-        rows.setdefault(int(kind), []).append(f"| {position} | {name} | {sort} | {width} | {required} |\n")
+        word, which, position, name, sort, width, required = LINE.fullmatch(line).groups()
+        row = f"| {position} | {name} | {sort} | {width} | {required} |\n"
+        if word == "type":
+            types.setdefault(int(which), []).append(row)
+        else:
+            tables.setdefault(which, []).append(row)
+    head = "\n\n| Position | Name | Sort | Width | Required |\n|---|---|---|---|---|\n"
     text = HEAD
-    for kind, lines in sorted(rows.items()):
+    for kind, rows in sorted(types.items()):
         title, section = TYPES[kind]
-        text += f"\n## {kind}: {title} (004 section {section})\n\n| Position | Name | Sort | Width | Required |\n|---|---|---|---|---|\n"
-        text += "".join(lines)
+        text += f"\n## {kind}: {title} (004 section {section})" + head + "".join(rows)
+    for section, rows in sorted(tables.items()):
+        text += f"\n## 10, {section}: {REPORTS[section]}" + head + "".join(rows)
     return text
 
 
 if __name__ == "__main__":
+    if sys.argv[1:]:
+        sys.exit("usage: tools/layout_page.py")
     here = pathlib.Path(__file__).resolve().parent.parent
     sys.stdout.write(page((here / "crates/layoutsheet/stdout").read_text()))

@@ -46,6 +46,8 @@ def connections():
 
 
 if __name__ == "__main__":
+    if sys.argv[1:] not in ([], ["--write"]):
+        sys.exit("usage: tools/sample_day.py [--write]")
     for name, data in connections().items():
         if sys.argv[1:] == ["--write"]:
             (EXAMPLES / name).write_bytes(data)

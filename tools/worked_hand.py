@@ -1,19 +1,15 @@
-#!/usr/bin/env python3
-"""Runs the program `worked` over the messages of runs/worked, which were made by hand from 004, and compares what it prints.
-
-    tools/worked_hand.py           runs every part; the program must be built (rt check worked)
-    tools/worked_hand.py FOLDER    writes FOLDER/PART/stdin and FOLDER/PART/stdout of every part
+"""The messages of runs/worked, which were made by hand from 004, as lines for the program `worked` and what it must answer.
 
 It knows the frame (start, Length, header, map, checksum) and nothing of any field: what must be answered stands in the files.
+tools/runs runs the lines; sample_day.py joins messages of the same files.
 """
-import os
 import pathlib
 import re
-import subprocess
 import sys
 
 ROOT = pathlib.Path(__file__).resolve().parent.parent
-LIMIT = 60000
+# A part's lines fit into the program's buffer of 65,536 bytes.
+LIMIT = 65536
 KEYS = ('message', 'type', 'number', 'flags', 'comp', 'compraw', 'more', 'plain', 'gives')
 
 def crc32c(data):
@@ -144,55 +140,28 @@ def questions(name, lines, made):
     must(not fields, f'{name} gives nothing for {sorted(fields)}')
     return out
 
-def main():
-    made, parts = {}, {}
+def damaged(lines, made):
+    """The questions of one damaged block: it is refused whatever is asked, or read as the message it was made from."""
+    it = {k: v for k, v, _ in lines}
+    data = change(made[it['from']][0], lines)
+    if 'same' in it:
+        return [say('read', None, data, [made[it['from']][1]])]
+    answer = ['refused'] + it['refused'].split()
+    return [say('read', None, data, answer), say('number', 255, data, answer), say('text', 0, data, answer)]
+
+def parts():
+    """Each part's name and its messages: a message is its name and its lines, each with the answer that must be given."""
+    must(crc32c(b'123456789') == 0xE3069283, 'CRC32C')
+    made, found = {}, {}
     messages = blocks('messages.txt')
     for _, lines in messages:
         must(lines[0][1] not in made, lines[0][1] + ' twice')
         made[lines[0][1]] = join(lines)
     for part, lines in messages:
-        name = lines[0][1]
-        parts.setdefault(part, []).append((name, questions(name, lines, made)))
+        found.setdefault(part, []).append((lines[0][1], questions(lines[0][1], lines, made)))
     for part, lines in blocks('damaged.txt'):
-        it = {k: v for k, v, _ in lines}
-        data = change(made[it['from']][0], lines)
-        if 'same' in it:
-            out = [say('read', None, data, [made[it['from']][1]])]
-        else:
-            answer = ['refused'] + it['refused'].split()
-            out = [say('read', None, data, answer), say('number', 255, data, answer), say('text', 0, data, answer)]
-        parts.setdefault(part, []).append((it['damaged'], out))
-    asked = 0
-    for part, cases in parts.items():
-        stdin = ''.join(f'# {name}\n' + ''.join(q + '\n' for q, _ in out) for name, out in cases)
-        stdout = ''.join(a + '\n' for _, out in cases for _, a in out)
-        must(len(stdin) < LIMIT, f'{part} is {len(stdin)} bytes')
-        asked += sum(len(out) for _, out in cases)
-        if len(sys.argv) == 2:
-            write(pathlib.Path(sys.argv[1]) / part, stdin, stdout)
-        else:
-            compare(part, cases, stdin, stdout)
-    print(f'worked_hand: {len(parts)} parts, {sum(map(len, parts.values()))} messages, {asked} questions')
-
-def write(folder, stdin, stdout):
-    os.makedirs(folder, exist_ok=True)
-    (folder / 'stdin').write_text(stdin, encoding='ascii')
-    (folder / 'stdout').write_text(stdout, encoding='ascii')
-
-def compare(part, cases, stdin, stdout):
-    """Runs one part, and names the first question whose answer differs."""
-    run = subprocess.run([ROOT / 'tools' / 'run', 'worked'], input=stdin.encode(), stdout=subprocess.PIPE, check=True)
-    got = run.stdout.decode('ascii', 'replace')
-    if got == stdout:
-        return
-    asked = [(name, q, a) for name, out in cases for q, a in out]
-    for (name, q, a), line in zip(asked, got.split('\n')):
-        if a != line:
-            sys.exit(f'worked_hand: {part}, {name}\n{q}\nmust give  {a}\nbut gives  {line}')
-    sys.exit(f'worked_hand: {part}: another number of lines')
-
-if __name__ == '__main__':
-    if len(sys.argv) > 2:
-        sys.exit(__doc__)
-    must(crc32c(b'123456789') == 0xE3069283, 'CRC32C')
-    main()
+        found.setdefault(part, []).append((lines[0][1], damaged(lines, made)))
+    for part, cases in found.items():
+        size = sum(len(q) + 1 for _, out in cases for q, _ in out) + sum(len(name) + 3 for name, _ in cases)
+        must(size < LIMIT, f'{part} is {size} bytes')
+    return found.items()

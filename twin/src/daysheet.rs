@@ -1,6 +1,7 @@
 //! Program daysheet (document 01): lines in, one line of account out for each.
 
 use crate::session::{RowSort, Send, Session};
+use crate::tables::types;
 use crate::wire::{set, MAP_WIDTH, MOST};
 use crate::writer::{self, HeadValues};
 
@@ -70,12 +71,12 @@ fn parse(line: &[u8]) -> Option<Line> {
 
 /// The message that a line stands for.
 fn message(line: &Line) -> Vec<u8> {
-    let (kind, positions, body): (u8, &[usize], Vec<u8>) = match line.kind {
+    let (message_type, positions, body): (u8, &[usize], Vec<u8>) = match line.kind {
         // A logon's Next Expected is 2.
-        Kind::Logon => (5, &[2], 2u32.to_le_bytes().to_vec()),
+        Kind::Logon => (types::LOGON, &[2], 2u32.to_le_bytes().to_vec()),
         // The smallest business message: Business Message Reject with its
         // two required fields.
-        Kind::Business => (9, &[0, 2], vec![0; 3]),
+        Kind::Business => (types::BUSINESS_MESSAGE_REJECT, &[0, 2], vec![0; 3]),
         Kind::GapFill | Kind::Reset => {
             let mode = if line.kind == Kind::GapFill {
                 b'Y'
@@ -84,7 +85,7 @@ fn message(line: &Line) -> Vec<u8> {
             };
             let mut body = vec![mode];
             body.extend_from_slice(&line.new.to_le_bytes());
-            (4, &[0, 1], body)
+            (types::SEQUENCE_RESET, &[0, 1], body)
         }
     };
     let mut map = [0; MAP_WIDTH];
@@ -92,7 +93,7 @@ fn message(line: &Line) -> Vec<u8> {
         set(&mut map, position);
     }
     let head = HeadValues {
-        kind,
+        message_type,
         number: line.n,
         poss_dup: line.dup,
         poss_resend: 0,

@@ -5,7 +5,7 @@
 
 use crate::crc::crc32c;
 use crate::session::{self, Phase, Session, LAST};
-use crate::tables::{self, Field, Sort};
+use crate::tables::{self, types, Field, Sort};
 use crate::wire::{set, BODY_AT, COMP_ID_WIDTH, LEAST, MAP_WIDTH, MOST, START, TRAILER};
 
 /// splitmix64.
@@ -137,7 +137,7 @@ pub fn field(rng: &mut Rng, field: Field) -> Vec<u8> {
 /// The header values of a message to make.
 #[derive(Clone, Copy, Debug)]
 pub struct Given<'a> {
-    pub kind: u8,
+    pub message_type: u8,
     pub number: u32,
     pub poss_dup: u8,
     pub poss_resend: u8,
@@ -150,7 +150,7 @@ pub fn frame(given: &Given, comp_id: &[u8], map: &[u8; MAP_WIDTH], body: &[u8]) 
     let length = BODY_AT + body.len() + TRAILER;
     let mut bytes = vec![START];
     bytes.extend_from_slice(&(length as u16).to_le_bytes());
-    bytes.push(given.kind);
+    bytes.push(given.message_type);
     bytes.extend_from_slice(&given.number.to_le_bytes());
     bytes.push(given.poss_dup);
     bytes.push(given.poss_resend);
@@ -166,7 +166,7 @@ pub fn frame(given: &Given, comp_id: &[u8], map: &[u8; MAP_WIDTH], body: &[u8]) 
 /// there, or None for a clear position.
 pub fn map_and_body(
     rng: &mut Rng,
-    kind: u8,
+    message_type: u8,
     fixed: &[(usize, Option<Vec<u8>>)],
 ) -> ([u8; MAP_WIDTH], Vec<u8>) {
     let mut map = [0; MAP_WIDTH];
@@ -178,7 +178,7 @@ pub fn map_and_body(
         _ => 50,
     };
     for position in 0..256 {
-        let entry = match tables::find(kind, position) {
+        let entry = match tables::find(message_type, position) {
             Some(entry) => entry,
             None => continue,
         };
@@ -198,16 +198,21 @@ pub fn map_and_body(
 
 /// A good message with some fields settled.
 pub fn message_with(rng: &mut Rng, given: &Given, fixed: &[(usize, Option<Vec<u8>>)]) -> Vec<u8> {
-    let (map, body) = map_and_body(rng, given.kind, fixed);
+    let (map, body) = map_and_body(rng, given.message_type, fixed);
     let comp_id = fixed_text(rng, given.comp_id, COMP_ID_WIDTH);
     frame(given, &comp_id, &map, &body)
 }
 
+/// One of the types that are held.
+pub fn message_type(rng: &mut Rng) -> u8 {
+    rng.index(types::COUNT) as u8
+}
+
 /// A good message of a type with random fields that may be left out, random
 /// values and random flags.
-pub fn message(rng: &mut Rng, kind: u8, number: u32, comp_id: &[u8]) -> Vec<u8> {
+pub fn message(rng: &mut Rng, message_type: u8, number: u32, comp_id: &[u8]) -> Vec<u8> {
     let given = Given {
-        kind,
+        message_type,
         number,
         poss_dup: rng.below(2) as u8,
         poss_resend: rng.below(2) as u8,
@@ -424,7 +429,7 @@ pub fn arrival(rng: &mut Rng, session: &Session) -> Vec<u8> {
     let (e, o) = (session.e, session.o);
     let comp_id = &session.comp_id[..];
     let mut given = Given {
-        kind: 0,
+        message_type: types::HEARTBEAT,
         number: likely_number(rng, e),
         poss_dup: 0,
         poss_resend: rng.chance(10) as u8,
@@ -435,7 +440,7 @@ pub fn arrival(rng: &mut Rng, session: &Session) -> Vec<u8> {
     let mut fixed = Vec::new();
     if session.phase == Phase::Waiting && !rng.chance(10) {
         // The Logon, mostly a good one.
-        given.kind = 5;
+        given.message_type = types::LOGON;
         let next_expected = match rng.below(12) {
             0 => 0,
             1 => above(rng, o),
@@ -445,9 +450,12 @@ pub fn arrival(rng: &mut Rng, session: &Session) -> Vec<u8> {
         fixed.push((2, bytes_of(next_expected)));
     } else {
         match rng.below(100) {
-            0..=39 => given.kind = 9 + rng.below(2) as u8,
+            0..=39 => {
+                let business = [types::BUSINESS_MESSAGE_REJECT, types::EXECUTION_REPORT];
+                given.message_type = business[rng.index(2)];
+            }
             40..=54 => {
-                given.kind = 4;
+                given.message_type = types::SEQUENCE_RESET;
                 let new = match rng.below(20) {
                     0 => given.number,
                     1 => rng.any_u32(),
@@ -457,7 +465,7 @@ pub fn arrival(rng: &mut Rng, session: &Session) -> Vec<u8> {
                 fixed.push((1, bytes_of(new)));
             }
             55..=61 => {
-                given.kind = 4;
+                given.message_type = types::SEQUENCE_RESET;
                 let new = match rng.below(20) {
                     0..=2 => e,
                     3 => below(rng, e),
@@ -477,18 +485,21 @@ pub fn arrival(rng: &mut Rng, session: &Session) -> Vec<u8> {
                     given.number = rng.any_u32().max(1);
                 }
             }
-            62..=71 => given.kind = 1,
+            62..=71 => given.message_type = types::TEST_REQUEST,
             72..=81 => {
-                given.kind = 2;
+                given.message_type = types::RESEND_REQUEST;
                 let (first, last) = resend_range(rng, o);
                 fixed.push((0, bytes_of(first)));
                 fixed.push((1, bytes_of(last)));
             }
-            82..=89 => given.kind = 0,
-            90..=94 => given.kind = 3,
-            95 | 96 => given.kind = 6,
-            97 => given.kind = [5, 7, 8][rng.index(3)],
-            _ => given.kind = rng.below(11) as u8,
+            82..=89 => given.message_type = types::HEARTBEAT,
+            90..=94 => given.message_type = types::REJECT,
+            95 | 96 => given.message_type = types::LOGOUT,
+            97 => {
+                let stopping = [types::LOGON, types::LOOKUP_REQUEST, types::LOOKUP_RESPONSE];
+                given.message_type = stopping[rng.index(3)];
+            }
+            _ => given.message_type = message_type(rng),
         }
     }
     // Another Comp ID: anything, one that ours begins, one that begins ours.

@@ -6,6 +6,7 @@ use crate::reader::{Head, Value};
 use crate::session::{
     self, Answer, Done, Ended, Logon, Phase, Row, RowSort, Send, A_ROW, A_SEND, NOTHING, NO_ROW,
 };
+use crate::tables::types;
 use crate::wire::Refusal;
 use crate::writer::HeadValues;
 use std::slice::ChunksExactMut;
@@ -467,13 +468,13 @@ fn open(bytes: &[u8]) -> Result<Opened<'_>, Refusal> {
         return refused(4, length);
     }
     let head = Head {
-        kind: message[3],
+        message_type: message[3],
         number: u32_at(message, 4),
         poss_dup: message[8],
         poss_resend: message[9],
         length,
     };
-    let layout = match LAYOUTS.get(usize::from(head.kind)) {
+    let layout = match LAYOUTS.get(usize::from(head.message_type)) {
         Some(layout) => layout,
         None => return refused(5, 0),
     };
@@ -654,7 +655,7 @@ pub fn write(
     body: &[u8],
     out: &mut [u8],
 ) -> Result<usize, Refusal> {
-    let layout = match LAYOUTS.get(usize::from(head.kind)) {
+    let layout = match LAYOUTS.get(usize::from(head.message_type)) {
         Some(layout) => layout,
         None => return refused(5, 0),
     };
@@ -694,7 +695,7 @@ pub fn write(
     let out = &mut out[..length];
     out[0] = 2;
     out[1..3].copy_from_slice(&(length as u16).to_le_bytes());
-    out[3] = head.kind;
+    out[3] = head.message_type;
     out[4..8].copy_from_slice(&head.number.to_le_bytes());
     out[8] = head.poss_dup;
     out[9] = head.poss_resend;
@@ -819,7 +820,7 @@ impl Session {
                 sends: 0,
                 ended: Ended::Down,
                 code: 20,
-                needed: 0,
+                besides: 0,
             };
         }
         if rows.len() < A_ROW || sends.len() < 2 * A_SEND {
@@ -830,7 +831,7 @@ impl Session {
                 sends: 2,
                 ended: Ended::NoSlot,
                 code: 0,
-                needed: 0,
+                besides: 0,
             };
         }
         let (row_slots, send_slots) = (rows.len() / A_ROW, sends.len() / A_SEND);
@@ -839,7 +840,7 @@ impl Session {
             sends: sends.chunks_exact_mut(A_SEND),
         };
         let mut used = 0;
-        let (ended, code, needed) = loop {
+        let (ended, code, besides) = loop {
             let rest = &bytes[used..];
             let seen = see(rest);
             // The common case first: business in its turn.
@@ -857,7 +858,7 @@ impl Session {
             let before = *self;
             let answer = self.other(seen, rest);
             if answer.code == 1 {
-                break (Ended::Short, 0, answer.besides as usize);
+                break (Ended::Short, 0, answer.besides);
             }
             let length = match answer.code {
                 2 | 3 => 0,
@@ -869,7 +870,7 @@ impl Session {
             }
             used += length;
             if self.phase == Phase::Down {
-                break (Ended::Down, answer.code, 0);
+                break (Ended::Down, answer.code, answer.besides);
             }
         };
         Done {
@@ -879,7 +880,7 @@ impl Session {
             sends: send_slots - free.sends.len(),
             ended,
             code,
-            needed,
+            besides: besides as usize,
         }
     }
 
@@ -900,9 +901,13 @@ impl Session {
     /// Whether a step hands the message up and does nothing else.
     #[inline(always)]
     fn is_next_business(&self, seen: &Opened, bytes: &[u8]) -> bool {
-        let Head { kind, number, .. } = seen.head;
+        let Head {
+            message_type,
+            number,
+            ..
+        } = seen.head;
         self.phase == Phase::Live
-            && kind >= 9
+            && message_type >= types::BUSINESS_MESSAGE_REJECT
             && number == self.e
             && number != LAST
             && self.is_ours(seen, bytes)
@@ -921,21 +926,23 @@ impl Session {
             return self.stop(31, 0);
         }
         let Head {
-            kind,
+            message_type,
             number: n,
             poss_dup,
             ..
         } = seen.head;
         if self.phase == Phase::Waiting {
-            return self.waiting(kind, n, seen.map, body);
+            return self.waiting(message_type, n, seen.map, body);
         }
         // The common case first: business in its turn.
-        if kind >= 9 && n == self.e && n != LAST {
+        if message_type >= types::BUSINESS_MESSAGE_REJECT && n == self.e && n != LAST {
             return answer(0, 0, self.take(RowSort::Business));
         }
-        match kind {
-            5 | 7 | 8 => return self.stop(32, 0),
-            6 => {
+        match message_type {
+            types::LOGON | types::LOOKUP_REQUEST | types::LOOKUP_RESPONSE => {
+                return self.stop(32, 0)
+            }
+            types::LOGOUT => {
                 let row = if n == self.e && n != LAST {
                     self.take(RowSort::Session)
                 } else {
@@ -948,7 +955,7 @@ impl Session {
             _ => {}
         }
         let mut fill = None;
-        if kind == 4 {
+        if message_type == types::SEQUENCE_RESET {
             let marked = seen.map & TOP != 0;
             let new = u32_at(body, usize::from(marked));
             if !(marked && body[0] == b'Y') {
@@ -973,7 +980,7 @@ impl Session {
         }
         let mut resend = Send::None;
         // 36 comes before what a Resend Request asks.
-        if kind == 2 && !(n == self.e && n == LAST) {
+        if message_type == types::RESEND_REQUEST && !(n == self.e && n == LAST) {
             let (start, end) = (u32_at(body, 0), u32_at(body, 4));
             if start == 0 || start >= self.o || (end != 0 && end < start) {
                 return self.stop(34, 0);
@@ -989,7 +996,7 @@ impl Session {
                     self.drop();
                     return answer(22, 0, NO_ROW);
                 }
-                sends[usize::from(kind == 2)] = Send::ResendRequest {
+                sends[usize::from(message_type == types::RESEND_REQUEST)] = Send::ResendRequest {
                     number: self.o,
                     start: self.e,
                     end: 0,
@@ -1008,7 +1015,7 @@ impl Session {
             }
             return answer(0, 0, self.jump(RowSort::Filled, new));
         }
-        if kind == 1 {
+        if message_type == types::TEST_REQUEST {
             if self.o == LAST {
                 self.drop();
                 return answer(22, 0, NO_ROW);
@@ -1028,8 +1035,8 @@ impl Session {
         }
     }
 
-    fn waiting(&mut self, kind: u8, n: u32, map: u64, body: &[u8]) -> Answer {
-        if kind == 3 || kind == 6 {
+    fn waiting(&mut self, message_type: u8, n: u32, map: u64, body: &[u8]) -> Answer {
+        if message_type == types::REJECT || message_type == types::LOGOUT {
             let row = if n == self.e && n != LAST {
                 self.take(RowSort::Session)
             } else {
@@ -1038,7 +1045,7 @@ impl Session {
             self.drop();
             return answer(0, 0, row);
         }
-        if kind != 5 {
+        if message_type != types::LOGON {
             return self.stop(32, 0);
         }
         if n < self.e {

@@ -14,7 +14,7 @@ pub struct Reading {
     pub number: u32,
     pub besides: usize,
     pub length: usize,
-    pub kind: u8,
+    pub message_type: u8,
     pub possdup: u8,
     pub possresend: u8,
 }
@@ -51,7 +51,7 @@ pub struct Listed {
 #[repr(C)]
 #[derive(Clone, Copy, Debug, Default, PartialEq, Eq)]
 pub struct Header {
-    pub kind: u8,
+    pub message_type: u8,
     pub possdup: u8,
     pub possresend: u8,
     pub number: u32,
@@ -60,7 +60,7 @@ pub struct Header {
 impl From<HeadValues> for Header {
     fn from(head: HeadValues) -> Header {
         Header {
-            kind: head.kind,
+            message_type: head.message_type,
             possdup: head.poss_dup,
             possresend: head.poss_resend,
             number: head.number,
@@ -104,6 +104,7 @@ pub struct Connected {
     pub session: Session,
     pub number: u32,
     pub next: u32,
+    pub besides: usize,
 }
 
 #[repr(C)]
@@ -132,6 +133,7 @@ pub struct Stepped {
     pub second: Send,
     pub row: Row,
     pub used: usize,
+    pub besides: usize,
 }
 
 #[repr(C)]
@@ -144,7 +146,7 @@ pub struct Done {
     pub sends: usize,
     pub ended: u32,
     pub code: u32,
-    pub needed: usize,
+    pub besides: usize,
 }
 
 impl Done {
@@ -158,7 +160,7 @@ impl Done {
             sends: done.sends,
             ended: done.ended as u32,
             code: done.code,
-            needed: done.needed,
+            besides: done.besides,
         }
     }
 }
@@ -180,15 +182,16 @@ const _: () = assert!(
         && size_of::<Written>() == 24
         && size_of::<Session>() == 28
         && size_of::<Made>() == 32
-        && size_of::<Connected>() == 40
+        && size_of::<Connected>() == 48
         && size_of::<Send>() == 16
         && size_of::<Row>() == 12
-        && size_of::<Stepped>() == 88
+        && size_of::<Stepped>() == 96
         && size_of::<Done>() == 72
         && size_of::<Planned>() == 16
 );
 
 extern "C" {
+    fn featherloom_version() -> u32;
     fn featherloom_read(bytes: *const u8, count: usize) -> Reading;
     fn featherloom_comp_id(bytes: *const u8, count: usize) -> Part;
     fn featherloom_map(bytes: *const u8, count: usize) -> Part;
@@ -228,10 +231,8 @@ extern "C" {
         buffer: *mut u8,
         room: usize,
         session: Session,
-        number: u32,
         password: *const u8,
         count: usize,
-        next: u32,
     ) -> Written;
     fn featherloom_plan(
         list: *const u8,
@@ -252,8 +253,21 @@ fn at(bytes: &[u8]) -> *const u8 {
     }
 }
 
+/// Where a buffer or a list to be written begins; NULL where it has no room.
+fn at_mut<T>(lent: &mut [T]) -> *mut T {
+    if lent.is_empty() {
+        ptr::null_mut()
+    } else {
+        lent.as_mut_ptr()
+    }
+}
+
 // Safe, each of them: the pointer and the length are those of one slice, the
 // structs are values, and the library keeps no pointer.
+
+pub fn version() -> u32 {
+    unsafe { featherloom_version() }
+}
 
 pub fn read(bytes: &[u8]) -> Reading {
     unsafe { featherloom_read(at(bytes), bytes.len()) }
@@ -280,7 +294,7 @@ pub fn text(bytes: &[u8], position: usize) -> Part {
 }
 
 pub fn fields(bytes: &[u8], numbers: &mut [u64]) -> Listed {
-    unsafe { featherloom_fields(at(bytes), bytes.len(), numbers.as_mut_ptr(), numbers.len()) }
+    unsafe { featherloom_fields(at(bytes), bytes.len(), at_mut(numbers), numbers.len()) }
 }
 
 pub fn crc32c(bytes: &[u8]) -> u32 {
@@ -296,7 +310,7 @@ pub fn write(
 ) -> Written {
     unsafe {
         featherloom_write(
-            buffer.as_mut_ptr(),
+            at_mut(buffer),
             buffer.len(),
             header,
             at(comp_id),
@@ -309,7 +323,7 @@ pub fn write(
 }
 
 pub fn decimal_text(buffer: &mut [u8], decimal: i64) -> Written {
-    unsafe { featherloom_decimal_text(buffer.as_mut_ptr(), buffer.len(), decimal) }
+    unsafe { featherloom_decimal_text(at_mut(buffer), buffer.len(), decimal) }
 }
 
 pub fn fresh(comp_id: &[u8]) -> Made {
@@ -338,34 +352,26 @@ pub fn steps(session: Session, bytes: &[u8], rows: &mut [u32], sends: &mut [u32]
             session,
             at(bytes),
             bytes.len(),
-            rows.as_mut_ptr(),
+            at_mut(rows),
             rows.len(),
-            sends.as_mut_ptr(),
+            at_mut(sends),
             sends.len(),
         )
     }
 }
 
 pub fn put(buffer: &mut [u8], session: Session, send: Send) -> Written {
-    unsafe { featherloom_put(buffer.as_mut_ptr(), buffer.len(), session, send) }
+    unsafe { featherloom_put(at_mut(buffer), buffer.len(), session, send) }
 }
 
-pub fn put_logon(
-    buffer: &mut [u8],
-    session: Session,
-    number: u32,
-    password: &[u8],
-    next: u32,
-) -> Written {
+pub fn put_logon(buffer: &mut [u8], session: Session, password: &[u8]) -> Written {
     unsafe {
         featherloom_put_logon(
-            buffer.as_mut_ptr(),
+            at_mut(buffer),
             buffer.len(),
             session,
-            number,
             at(password),
             password.len(),
-            next,
         )
     }
 }
@@ -377,7 +383,7 @@ pub fn plan(list: &[u8], start: u32, end: u32, numbers: &mut [u32]) -> Planned {
             list.len(),
             start,
             end,
-            numbers.as_mut_ptr(),
+            at_mut(numbers),
             numbers.len(),
         )
     }

@@ -2,13 +2,13 @@
 //! message at the front of the lent bytes.
 
 use crate::crc::crc32c;
-use crate::tables::Sort;
+use crate::tables::{self, types, Sort};
 use crate::wire::*;
 
 /// The header values and the message length.
 #[derive(Clone, Copy, Debug, PartialEq, Eq)]
 pub struct Head {
-    pub kind: u8,
+    pub message_type: u8,
     pub number: u32,
     pub poss_dup: u8,
     pub poss_resend: u8,
@@ -56,13 +56,13 @@ fn frame(bytes: &[u8]) -> Result<&[u8], Refusal> {
 /// The header of a framed message: refusals 5 and 6.
 fn header(message: &[u8]) -> Result<Head, Refusal> {
     let head = Head {
-        kind: message[3],
+        message_type: message[3],
         number: number(&message[4..8]) as u32,
         poss_dup: message[8],
         poss_resend: message[9],
         length: message.len(),
     };
-    if head.kind > 10 {
+    if head.message_type > types::LAST {
         return Err(refuse(UNKNOWN_TYPE, 0));
     }
     let comp_id = before_null(comp_id_field(message));
@@ -89,7 +89,7 @@ fn body_field(message: &[u8]) -> &[u8] {
 fn whole(bytes: &[u8]) -> Result<(Head, Vec<Found<'_>>), Refusal> {
     let message = frame(bytes)?;
     let head = header(message)?;
-    let fields = walk(head.kind, map_field(message), body_field(message))?;
+    let fields = walk(head.message_type, map_field(message), body_field(message))?;
     Ok((head, fields))
 }
 
@@ -125,7 +125,7 @@ pub fn body(bytes: &[u8]) -> &[u8] {
 /// position asked, then 13.
 fn ask(bytes: &[u8], position: u32) -> Result<Found<'_>, Refusal> {
     let (head, fields) = whole(bytes)?;
-    let known = position < 256 && crate::tables::find(head.kind, position as usize).is_some();
+    let known = position < 256 && tables::find(head.message_type, position as usize).is_some();
     if !known {
         return Err(Refusal {
             number: UNKNOWN_POSITION,

@@ -5,7 +5,7 @@ use crate::make::{self, Given, Rng};
 use crate::plain;
 use crate::reader;
 use crate::session::{A_ROW, A_SEND, SENDS_A_STEP};
-use crate::tables::EXECUTION_REPORTS;
+use crate::tables::{types, EXECUTION_REPORTS};
 use crate::wire::{number, set, MAP_WIDTH};
 use crate::writer::{self, HeadValues};
 
@@ -29,7 +29,7 @@ fn report(rng: &mut Rng, number: u32) -> Vec<u8> {
             }
         }
         let given = Given {
-            kind: 10,
+            message_type: types::EXECUTION_REPORT,
             number,
             poss_dup: 0,
             poss_resend: 0,
@@ -97,7 +97,7 @@ pub fn parts(bytes: &[u8]) -> Parts {
     map.copy_from_slice(reader::map(bytes));
     Parts {
         head: HeadValues {
-            kind: head.kind,
+            message_type: head.message_type,
             number: head.number,
             poss_dup: head.poss_dup,
             poss_resend: head.poss_resend,

@@ -2,11 +2,12 @@
 //! comments are the rules' numbers there.
 
 use crate::reader::{self, Head, Value};
-use crate::tables;
+use crate::tables::{self, types};
 use crate::wire::{
-    is_comp_id, number, refuse, Refusal, BAD_HEADER, BAD_LENGTH, BAD_START, NO_ROOM, SHORT,
+    is_comp_id, number, refuse, Refusal, BAD_HEADER, BAD_LENGTH, BAD_START, BAD_SUM, NO_ROOM, SHORT,
 };
 use crate::writer;
+use std::ops::RangeInclusive;
 
 /// The last number there is; nothing is sent or taken under it.
 pub const LAST: u32 = 4_294_967_295;
@@ -22,6 +23,8 @@ pub const BAD_NEW: u32 = 33;
 pub const BAD_RESEND: u32 = 34;
 pub const BAD_NEXT_EXPECTED: u32 = 35;
 pub const LAST_TAKEN: u32 = 36;
+/// The C interface's own: a message to send that no session gives.
+pub const NOT_A_SEND: u32 = 91;
 
 #[derive(Clone, Copy, Debug, PartialEq, Eq)]
 pub enum Phase {
@@ -71,11 +74,22 @@ pub const ROW_PLACE: usize = 3;
 pub const ROWS_A_STEP: usize = 1;
 pub const SENDS_A_STEP: usize = 2;
 
-/// What lists call the messages to send.
+/// What lists and the C interface call the messages to send.
+const NO_MESSAGE: u32 = 0;
 const HEARTBEAT: u32 = 1;
 const LOGOUT: u32 = 2;
 const GAP_FILL: u32 = 3;
 const RESEND_REQUEST: u32 = 4;
+/// The greatest of them.
+pub const LAST_KIND: u32 = RESEND_REQUEST;
+
+/// The numbers that a step's own messages take. A session that is up has sent a
+/// Logon, and that took the first at least; the last is never used.
+const OWN_NUMBERS: RangeInclusive<u32> = 2..=LAST - 1;
+
+/// The E that a Resend Request asks from. A message lies ahead of it, so it is
+/// not the last number.
+const STARTS: RangeInclusive<u32> = 1..=LAST - 1;
 
 impl Send {
     /// The numbers of a list for the message: its kind, its own number and two
@@ -89,6 +103,34 @@ impl Send {
             Send::ResendRequest { number, start, end } => {
                 Some([RESEND_REQUEST, number, start, end])
             }
+        }
+    }
+
+    /// The message of these numbers; None where no step of any session gives them.
+    pub fn of_numbers([kind, number, first, second]: [u32; A_SEND]) -> Option<Send> {
+        // Only a Resend Request has a second value, and it always asks for all.
+        if second != 0 {
+            return None;
+        }
+        let is_own = OWN_NUMBERS.contains(&number);
+        match kind {
+            NO_MESSAGE if number == 0 && first == 0 => Some(Send::None),
+            HEARTBEAT if is_own => {
+                let id = u16::try_from(first).ok()?;
+                Some(Send::Heartbeat { number, id })
+            }
+            LOGOUT if is_own && first == 0 => Some(Send::Logout { number }),
+            // Every range that begins at 1 or later: O may be any number above it.
+            GAP_FILL if number >= 1 && first > number => Some(Send::GapFill {
+                first: number,
+                new: first,
+            }),
+            RESEND_REQUEST if is_own && STARTS.contains(&first) => Some(Send::ResendRequest {
+                number,
+                start: first,
+                end: 0,
+            }),
+            _ => None,
         }
     }
 }
@@ -148,7 +190,9 @@ impl Row {
 pub struct Answer {
     /// 0, or the number of the refusal or of the Stop.
     pub code: u32,
-    /// What the reader returned besides, where the code is the reader's.
+    /// What the reader returned besides, where the code is the reader's: for 1 the
+    /// bytes needed in all, for 4 the Length, for 7, 8 and 9 the position, for 10
+    /// how many bytes are left over. Else 0.
     pub besides: u32,
     /// The messages to send, in order; a single one stands in the first slot.
     pub sends: [Send; 2],
@@ -196,9 +240,10 @@ pub struct Done {
     pub ended: Ended,
     /// Ended Down: the last step's code, or 20. Else 0.
     pub code: u32,
-    /// Ended Short: the bytes that the message needs, from its first one on. Else
-    /// 0.
-    pub needed: usize,
+    /// What the step that ended the call returned besides. Ended Short: the bytes
+    /// that the message needs, from its first one on. Ended Down: what the reader
+    /// returned besides the code. Else 0.
+    pub besides: usize,
 }
 
 /// No step is done yet.
@@ -209,7 +254,7 @@ const NOT_BEGUN: Done = Done {
     sends: 0,
     ended: Ended::Short,
     code: 0,
-    needed: 0,
+    besides: 0,
 };
 
 /// Lays numbers into a list from a place on.
@@ -286,6 +331,26 @@ impl Session {
         })
     }
 
+    /// Connect's Logon as bytes, for the session that Connect left: it bears the
+    /// number that Connect took and E, and neither moves while we wait. 91 if the
+    /// session is not Waiting, 9 (position 0) for a password that the text writer
+    /// does not take, 11; a refusal leaves `out` as it was.
+    pub fn put_logon(&self, password: &[u8], out: &mut [u8]) -> Result<usize, Refusal> {
+        if self.phase != Phase::Waiting {
+            return Err(refuse(NOT_A_SEND, 0));
+        }
+        let bytes = writer::logon(self.o - 1, &self.comp_id, password, self.e)?;
+        writer::put(&bytes, out)
+    }
+
+    /// A message to send as bytes under our Comp ID; none for no message. 91 for
+    /// numbers that no step of any session gives, 11; a refusal leaves `out` as it
+    /// was.
+    pub fn put(&self, send: [u32; A_SEND], out: &mut [u8]) -> Result<usize, Refusal> {
+        let send = Send::of_numbers(send).ok_or_else(|| refuse(NOT_A_SEND, 0))?;
+        writer::put(&send.bytes(&self.comp_id)?, out)
+    }
+
     /// Drop: Down, E and O kept. M is 0 whenever the state is Down.
     #[allow(clippy::should_implement_trait)] // the paper's word
     pub fn drop(&mut self) {
@@ -305,7 +370,7 @@ impl Session {
         let head = match reader::read(bytes) {
             Ok(head) => head,
             // 1 changes nothing; 4 drops the message and changes nothing.
-            Err(refusal) if refusal.number == 1 || refusal.number == 4 => {
+            Err(refusal) if refusal.number == SHORT || refusal.number == BAD_SUM => {
                 return Answer {
                     code: refusal.number,
                     besides: refusal.besides,
@@ -349,7 +414,7 @@ impl Session {
             if answer.code == SHORT {
                 return Done {
                     ended: Ended::Short,
-                    needed: answer.besides as usize,
+                    besides: answer.besides as usize,
                     ..done
                 };
             }
@@ -381,6 +446,7 @@ impl Session {
                 return Done {
                     ended: Ended::Down,
                     code: answer.code,
+                    besides: answer.besides as usize,
                     ..done
                 };
             }
@@ -412,9 +478,9 @@ impl Session {
     /// Rule 2, waiting for the gateway's Logon.
     fn waiting(&mut self, head: &Head, bytes: &[u8]) -> Answer {
         let n = head.number;
-        match head.kind {
-            // Logout or Reject: Down, nothing sent.
-            6 | 3 => {
+        match head.message_type {
+            // Down, nothing sent.
+            types::LOGOUT | types::REJECT => {
                 let row = if n == self.e && n != LAST {
                     self.take(RowSort::Session)
                 } else {
@@ -423,7 +489,7 @@ impl Session {
                 self.drop();
                 Answer { row, ..NOTHING }
             }
-            5 => {
+            types::LOGON => {
                 let next_expected = required(bytes, 2);
                 if n < self.e {
                     return self.stop(LOWER_NUMBER);
@@ -463,10 +529,10 @@ impl Session {
     fn live(&mut self, head: &Head, bytes: &[u8]) -> Answer {
         let n = head.number;
         // 3.
-        if head.kind == 5 || head.kind == 7 || head.kind == 8 {
+        if let types::LOGON | types::LOOKUP_REQUEST | types::LOOKUP_RESPONSE = head.message_type {
             return self.stop(WRONG_TYPE);
         }
-        let is_reset = head.kind == 4;
+        let is_reset = head.message_type == types::SEQUENCE_RESET;
         let is_gap_fill = is_reset && asked(bytes, 0) == Some(u32::from(b'Y'));
         // 4. n is ignored.
         if is_reset && !is_gap_fill {
@@ -481,7 +547,7 @@ impl Session {
             return Answer { row, ..NOTHING };
         }
         // 5.
-        if head.kind == 6 {
+        if head.message_type == types::LOGOUT {
             let row = if n == self.e && n != LAST {
                 self.take(RowSort::Session)
             } else {
@@ -517,7 +583,7 @@ impl Session {
             return Answer { row, ..NOTHING };
         }
         let mut first_send = Send::None;
-        if head.kind == 1 {
+        if head.message_type == types::TEST_REQUEST {
             if self.o == LAST {
                 return self.exhausted();
             }
@@ -526,16 +592,15 @@ impl Session {
                 id: required(bytes, 0) as u16,
             };
         }
-        if head.kind == 2 {
+        if head.message_type == types::RESEND_REQUEST {
             first_send = match self.answer_resend(bytes) {
                 Some(gap_fill) => gap_fill,
                 None => return self.stop(BAD_RESEND),
             };
         }
-        let sort = if head.kind == 9 || head.kind == 10 {
-            RowSort::Business
-        } else {
-            RowSort::Session
+        let sort = match head.message_type {
+            types::BUSINESS_MESSAGE_REJECT | types::EXECUTION_REPORT => RowSort::Business,
+            _ => RowSort::Session,
         };
         let row = self.take(sort);
         Answer {
@@ -550,7 +615,7 @@ impl Session {
     fn ahead(&mut self, head: &Head, bytes: &[u8]) -> Answer {
         let mut sends = [Send::None; 2];
         let mut used = 0;
-        if head.kind == 2 {
+        if head.message_type == types::RESEND_REQUEST {
             match self.answer_resend(bytes) {
                 Some(gap_fill) => sends[used] = gap_fill,
                 None => return self.stop(BAD_RESEND),

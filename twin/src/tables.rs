@@ -522,7 +522,27 @@ const fn join(tables: &[&[Line]]) -> Entries {
     entries
 }
 
-static ALL: [Entries; 11] = [
+/// The numbers of the message types (004 sections 7.6, 7.7, 7.8, 7.11).
+pub mod types {
+    pub const HEARTBEAT: u8 = 0;
+    pub const TEST_REQUEST: u8 = 1;
+    pub const RESEND_REQUEST: u8 = 2;
+    pub const REJECT: u8 = 3;
+    pub const SEQUENCE_RESET: u8 = 4;
+    pub const LOGON: u8 = 5;
+    pub const LOGOUT: u8 = 6;
+    pub const LOOKUP_REQUEST: u8 = 7;
+    pub const LOOKUP_RESPONSE: u8 = 8;
+    pub const BUSINESS_MESSAGE_REJECT: u8 = 9;
+    pub const EXECUTION_REPORT: u8 = 10;
+    /// All from 0 to this one are held.
+    pub const LAST: u8 = EXECUTION_REPORT;
+    /// How many there are.
+    pub const COUNT: usize = LAST as usize + 1;
+}
+
+/// The types' tables, by their numbers.
+static ALL: [Entries; types::COUNT] = [
     join(&[HEARTBEAT]),
     join(&[TEST_REQUEST]),
     join(&[RESEND_REQUEST]),
@@ -537,9 +557,9 @@ static ALL: [Entries; 11] = [
 ];
 
 /// The field of a type at a position; None where no table of it names one, or
-/// for a type above 10.
-pub fn find(kind: u8, position: usize) -> Option<Entry> {
-    *ALL.get(usize::from(kind))?.get(position)?
+/// for a type above the last.
+pub fn find(message_type: u8, position: usize) -> Option<Entry> {
+    *ALL.get(usize::from(message_type))?.get(position)?
 }
 
 #[cfg(test)]

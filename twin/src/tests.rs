@@ -4,8 +4,8 @@ use crate::plan::plan;
 use crate::reader::{self, Value, A_FIELD};
 use crate::reports::LIST;
 use crate::session::{
-    self, Answer, Done, Ended, Phase, Row, RowSort, Send, Session, A_ROW, A_SEND, LAST, NOTHING,
-    NO_ROW,
+    self, Answer, Done, Ended, Phase, Row, RowSort, Send, Session, A_ROW, A_SEND, LAST, LAST_KIND,
+    NOTHING, NOT_A_SEND, NO_ROW,
 };
 use crate::tables::{self, Sort};
 use crate::wire::{self, is_set, refuse, set, Refusal, LEAST, MAP_WIDTH, MOST};
@@ -14,9 +14,9 @@ use crate::{crc, plain};
 
 const US: &[u8] = b"RECORDER01";
 
-fn head(kind: u8, number: u32) -> HeadValues {
+fn head(message_type: u8, number: u32) -> HeadValues {
     HeadValues {
-        kind,
+        message_type,
         number,
         poss_dup: 0,
         poss_resend: 0,
@@ -39,9 +39,9 @@ fn written(head: &HeadValues, positions: &[usize], body: &[u8]) -> Vec<u8> {
 }
 
 /// A message framed as it is, right or wrong.
-fn framed(kind: u8, number: u32, positions: &[usize], body: &[u8]) -> Vec<u8> {
+fn framed(message_type: u8, number: u32, positions: &[usize], body: &[u8]) -> Vec<u8> {
     let given = Given {
-        kind,
+        message_type,
         number,
         poss_dup: 0,
         poss_resend: 0,
@@ -77,7 +77,7 @@ fn figure_required_set_of_type_10() {
     assert_eq!(map_of(&positions), map);
     let bytes = written(&head(10, 1), &positions, &body);
     assert_eq!(reader::map(&bytes), map);
-    assert_eq!(reader::read(&bytes).unwrap().kind, 10);
+    assert_eq!(reader::read(&bytes).unwrap().message_type, 10);
 }
 
 #[test]
@@ -488,10 +488,10 @@ fn listing_refusals_in_order() {
 fn lists_what_asking_says() {
     let mut rng = Rng::new(22);
     for _ in 0..400 {
-        let kind = rng.below(11) as u8;
+        let message_type = make::message_type(&mut rng);
         let number = rng.any_u32().max(1);
         let comp_id = make::comp_id(&mut rng);
-        let bytes = make::message(&mut rng, kind, number, &comp_id);
+        let bytes = make::message(&mut rng, message_type, number, &comp_id);
         let (_, fields) = reader::list(&bytes, LIST).unwrap();
         let mut fields = fields.into_iter().peekable();
         for asked in 0..256 {
@@ -607,7 +607,7 @@ fn session_messages() {
     assert_eq!(writer::logon(0, US, b"\x80", 4), Err(refuse(9, 0)));
     assert_eq!(writer::logon(0, US, b"x", 4), Err(refuse(6, 0)));
 
-    for (bytes, kind, length) in [
+    for (bytes, message_type, length) in [
         (writer::logout(1, US), 6, 58),
         (writer::heartbeat(1, US), 0, 58),
         (writer::heartbeat_for(1, US, 700), 0, 60),
@@ -618,10 +618,10 @@ fn session_messages() {
         let bytes = bytes.unwrap();
         let head = reader::read(&bytes).unwrap();
         assert_eq!(
-            (head.kind, head.length, bytes.len()),
-            (kind, length, length)
+            (head.message_type, head.length, bytes.len()),
+            (message_type, length, length)
         );
-        assert_eq!(head.poss_dup, (kind == 4) as u8);
+        assert_eq!(head.poss_dup, (message_type == 4) as u8);
     }
 }
 
@@ -631,18 +631,18 @@ fn session_messages() {
 fn every_type_there_and_back() {
     let mut rng = Rng::new(1);
     for round in 0..400 {
-        for kind in 0..=10 {
+        for message_type in 0..=10 {
             let comp_id = make::comp_id(&mut rng);
             let number = rng.any_u32().max(1);
-            let bytes = make::message(&mut rng, kind, number, &comp_id);
+            let bytes = make::message(&mut rng, message_type, number, &comp_id);
             let head = reader::read(&bytes).unwrap_or_else(|r| panic!("{} {:?}", round, r));
-            assert_eq!((head.kind, head.number), (kind, number));
+            assert_eq!((head.message_type, head.number), (message_type, number));
             assert_eq!(head.length, bytes.len());
             assert_eq!(reader::comp_id(&bytes), comp_id);
             let mut map = [0; MAP_WIDTH];
             map.copy_from_slice(reader::map(&bytes));
             let values = HeadValues {
-                kind,
+                message_type,
                 number,
                 poss_dup: head.poss_dup,
                 poss_resend: head.poss_resend,
@@ -659,7 +659,7 @@ fn every_type_there_and_back() {
                 let text = reader::ask_text(&bytes, position);
                 assert_eq!(number, reader::ask_number(out, position));
                 assert_eq!(text, reader::ask_text(out, position));
-                let entry = tables::find(kind, position as usize);
+                let entry = tables::find(message_type, position as usize);
                 match entry {
                     None => assert_eq!(text.unwrap_err().number, 7),
                     Some(_) if !is_set(&map, position as usize) => {
@@ -820,7 +820,11 @@ fn resend(n: u32, start: u32, end: u32) -> Vec<u8> {
 }
 
 fn test_request(n: u32) -> Vec<u8> {
-    framed(1, n, &[0], &[0x34, 0x12])
+    test_request_of(n, 0x1234)
+}
+
+fn test_request_of(n: u32, id: u16) -> Vec<u8> {
+    framed(1, n, &[0], &id.to_le_bytes())
 }
 
 fn row(sort: RowSort, first: u32, last: u32) -> Row {
@@ -911,6 +915,308 @@ fn session_reader_refusals() {
     stops(live(3, LAST), &framed(0, 0, &[], &[]), 6);
 }
 
+/// What a step returns besides: the reader's value for 1, 4, 7, 8, 9 and 10, and
+/// 0 with all others.
+#[test]
+fn session_besides() {
+    let good = business(3);
+    let length = good.len() as u32;
+    let mut foreign = good.clone();
+    foreign[10] = b'X';
+    make::reseal(&mut foreign);
+    for (bytes, code, besides) in [
+        (vec![], 1, 3),
+        (good[..2].to_vec(), 1, 3),
+        (good[..3].to_vec(), 1, length),
+        (good[..good.len() - 1].to_vec(), 1, length),
+        (vec![7], 2, 0),
+        (vec![2, 57, 0], 3, 0),
+        (bad_sum(good.clone()), 4, length),
+        (framed(11, 3, &[], &[]), 5, 0),
+        (framed(0, 0, &[], &[]), 6, 0),
+        (framed(0, 3, &[40, 41], &[]), 7, 40),
+        (framed(0, 3, &[255], &[]), 7, 255),
+        (framed(2, 3, &[], &[]), 8, 0),
+        (framed(2, 3, &[0], &[]), 8, 1),
+        (framed(2, 3, &[0, 1], &[1; 3]), 9, 0),
+        (framed(2, 3, &[0, 1], &[1; 7]), 9, 1),
+        (framed(0, 3, &[], &[1]), 10, 1),
+        (framed(0, 3, &[0], &[1; 9]), 10, 7),
+        (foreign, 31, 0),
+    ] {
+        for session in [waiting(3, 4), live(3, 4)] {
+            let answer = session.clone().step(&bytes);
+            assert_eq!((answer.code, answer.besides), (code, besides));
+            assert_eq!(plain::Session::of(&session).step(&bytes), answer);
+            // Down does not look at the bytes.
+            let mut down = session;
+            down.drop();
+            assert_eq!(down.step(&bytes), only(20));
+        }
+    }
+    // Neither the session's own refusals nor good messages say anything besides.
+    for bytes in [good, business(2), logon(3, 4), resend(3, 0, 0)] {
+        assert_eq!(live(3, 4).step(&bytes).besides, 0);
+    }
+}
+
+/// A buffer as it was before a call, longer than every message to send.
+const UNWRITTEN: [u8; 600] = [0xA5; 600];
+
+/// What a call wrote at the front of a buffer with so much room. It must leave
+/// alone what stands behind, and on a refusal all.
+fn put_with(
+    room: usize,
+    put: impl FnOnce(&mut [u8]) -> Result<usize, Refusal>,
+) -> Result<Vec<u8>, Refusal> {
+    let mut buffer = UNWRITTEN;
+    let answer = put(&mut buffer[..room]);
+    let length = answer.unwrap_or(0);
+    assert_eq!(buffer[length..], UNWRITTEN[length..]);
+    answer.map(|length| buffer[..length].to_vec())
+}
+
+/// The same with room for every message to send.
+fn put(put: impl FnOnce(&mut [u8]) -> Result<usize, Refusal>) -> Result<Vec<u8>, Refusal> {
+    put_with(UNWRITTEN.len(), put)
+}
+
+#[test]
+fn putting_a_logon() {
+    // Connect's Logon, from the session alone.
+    for (e, o) in [(1, 1), (9, 5), (LAST, 1), (LAST, LAST - 1)] {
+        let mut session = Session::saved(US, e, o).unwrap();
+        let sent = session.connect(b"secret").unwrap();
+        let bytes = put(|out| session.put_logon(b"secret", out)).unwrap();
+        assert_eq!(Ok(bytes.clone()), sent.bytes(US));
+        let head = reader::read(&bytes).unwrap();
+        assert_eq!((head.message_type, head.number), (5, o));
+        assert_eq!((head.poss_dup, head.poss_resend), (0, 0));
+        assert_eq!(reader::comp_id(&bytes), US);
+        assert_eq!(reader::map(&bytes), map_of(&[0, 2]));
+        assert_eq!(reader::ask_text(&bytes, 0), Ok(&b"secret"[..]));
+        let next_expected = reader::ask_number(&bytes, 2);
+        assert_eq!(next_expected, Ok(Value::Number(u64::from(e))));
+    }
+
+    // 91 comes first, then the password's 9, then 11.
+    let not_a_send = Err(refuse(NOT_A_SEND, 0));
+    let mut dropped = waiting(3, 4);
+    dropped.drop();
+    for session in [Session::fresh(US).unwrap(), dropped, live(3, 4)] {
+        for password in [&b"secret"[..], b"\x80"] {
+            for room in [0, 512] {
+                let answer = put_with(room, |out| session.put_logon(password, out));
+                assert_eq!(answer, not_a_send);
+            }
+        }
+    }
+    let session = waiting(3, 4);
+    for password in [&b"\x80"[..], b"\x1F", b"\0", &[b'x'; 450]] {
+        for room in [0, 512] {
+            let answer = put_with(room, |out| session.put_logon(password, out));
+            assert_eq!(answer, Err(refuse(9, 0)));
+        }
+    }
+    for password in [&b""[..], b" ~", &[b'x'; 449]] {
+        for room in [0, 511] {
+            let answer = put_with(room, |out| session.put_logon(password, out));
+            assert_eq!(answer, Err(refuse(11, 512)));
+        }
+        let answer = put_with(512, |out| session.put_logon(password, out));
+        assert_eq!(answer, writer::logon(3, US, password, 3));
+    }
+    // After a Stop there is none to send, and after another Connect there is.
+    let mut session = waiting(3, 4);
+    session.step(&[7]);
+    assert_eq!(put(|out| session.put_logon(b"", out)), not_a_send);
+    session.connect(b"").unwrap();
+    let again = put(|out| session.put_logon(b"", out));
+    assert_eq!(again, writer::logon(5, US, b"", 3));
+}
+
+/// Each bound of what a session gives to send, from both sides.
+#[test]
+fn putting_what_a_session_gives() {
+    let session = live(3, 4);
+    let taken = |send: [u32; A_SEND]| {
+        let answer = put(|out| session.put(send, out));
+        if let Err(refusal) = answer {
+            assert_eq!(refusal, refuse(NOT_A_SEND, 0), "{:?}", send);
+        }
+        answer.is_ok()
+    };
+    // No message.
+    assert!(taken([0, 0, 0, 0]));
+    for send in [
+        [0, 1, 0, 0],
+        [0, 0, 1, 0],
+        [0, 0, 0, 1],
+        [0, LAST, LAST, LAST],
+    ] {
+        assert!(!taken(send));
+    }
+    // Our own numbers.
+    for (kind, first) in [(1, 0), (2, 0), (4, 1)] {
+        for (number, good) in [
+            (0, false),
+            (1, false),
+            (2, true),
+            (3, true),
+            (LAST - 1, true),
+            (LAST, false),
+        ] {
+            assert_eq!(taken([kind, number, first, 0]), good);
+        }
+    }
+    // A Heartbeat's ID has two bytes.
+    for (id, good) in [
+        (0, true),
+        (65_535, true),
+        (65_536, false),
+        (0x1_0001, false),
+        (LAST, false),
+    ] {
+        assert_eq!(taken([1, 2, id, 0]), good);
+    }
+    // A Logout has no value.
+    assert!(!taken([2, 2, 1, 0]));
+    // A gap fill: the first number covered, and New above it.
+    for (first, new, good) in [
+        (0, 0, false),
+        (0, 1, false),
+        (1, 0, false),
+        (1, 1, false),
+        (1, 2, true),
+        (1, LAST, true),
+        (7, 6, false),
+        (7, 7, false),
+        (7, 8, true),
+        (LAST - 1, LAST - 1, false),
+        (LAST - 1, LAST, true),
+        (LAST, LAST - 1, false),
+        (LAST, LAST, false),
+    ] {
+        assert_eq!(taken([3, first, new, 0]), good);
+    }
+    // A Resend Request's Start.
+    for (start, good) in [
+        (0, false),
+        (1, true),
+        (2, true),
+        (LAST - 1, true),
+        (LAST, false),
+    ] {
+        assert_eq!(taken([4, 2, start, 0]), good);
+    }
+    // No kind has a second value, and there are no more kinds.
+    for good in [[1, 2, 0, 0], [2, 2, 0, 0], [3, 1, 2, 0], [4, 2, 1, 0]] {
+        assert!(taken(good));
+        for second in [1, 2, LAST] {
+            assert!(!taken([good[0], good[1], good[2], second]));
+        }
+    }
+    for kind in [LAST_KIND + 1, 6, 257, LAST] {
+        for rest in [[0, 0, 0], [2, 1, 0], [1, 2, 0]] {
+            assert!(!taken([kind, rest[0], rest[1], rest[2]]));
+        }
+    }
+}
+
+/// The bytes are the same whatever state the session is in; 91 comes before 11.
+#[test]
+fn putting_as_bytes() {
+    let down = Session::saved(US, 3, 4).unwrap();
+    for session in [down, waiting(3, 4), live(3, 4)] {
+        for (send, bytes) in [
+            ([0, 0, 0, 0], Ok(vec![])),
+            ([1, 7, 0x1234, 0], writer::heartbeat_for(7, US, 0x1234)),
+            ([2, 7, 0, 0], writer::logout(7, US)),
+            ([3, 5, 9, 0], writer::gap_fill(5, US, 9)),
+            ([4, 7, 3, 0], writer::resend_request(7, US, 3, 0)),
+        ] {
+            let length = bytes.as_ref().unwrap().len();
+            assert_eq!(put_with(length, |out| session.put(send, out)), bytes);
+            assert_eq!(put(|out| session.put(send, out)), bytes);
+            for room in [0, length.saturating_sub(1)] {
+                if room < length {
+                    let answer = put_with(room, |out| session.put(send, out));
+                    assert_eq!(answer, Err(refuse(11, length)));
+                }
+            }
+            let mut bad = send;
+            bad[3] = 1;
+            let answer = put_with(0, |out| session.put(bad, out));
+            assert_eq!(answer, Err(refuse(NOT_A_SEND, 0)));
+        }
+    }
+}
+
+/// A step that gives this message, if there is one: a session that is up, and
+/// what arrives. The numbers are taken as they are wherever a session can have
+/// them.
+fn giving(send: Send) -> Option<[Send; 2]> {
+    let up = |phase, e, o| {
+        let good = e >= 1 && o >= 2;
+        good.then(|| Session {
+            phase,
+            ..Session::saved(US, e, o).unwrap()
+        })
+    };
+    let live = |e, o| up(Phase::Live, e, o);
+    let answer = match send {
+        Send::None => live(1, 2)?.step(&business(1)),
+        Send::Heartbeat { number, id } => live(1, number)?.step(&test_request_of(1, id)),
+        Send::Logout { number } => live(1, number)?.step(&[7]),
+        Send::GapFill { first, new } => up(Phase::Waiting, 1, new)?.step(&logon(1, first)),
+        Send::ResendRequest { number, start, .. } => {
+            live(start, number)?.step(&business(start.checked_add(1)?))
+        }
+    };
+    Some(answer.sends)
+}
+
+/// Exactly what a step gives is taken: of all edges each that is taken is given
+/// by a step, and each message that is refused is given by none.
+#[test]
+fn putting_exactly_what_steps_give() {
+    let edges = [0, 1, 2, 3, 65_535, 65_536, LAST - 2, LAST - 1, LAST];
+    let mut taken = 0;
+    for kind in 0..=LAST_KIND {
+        for number in edges {
+            for first in edges {
+                for second in [0, 1, LAST] {
+                    let numbers = [kind, number, first, second];
+                    let unchecked = match kind {
+                        0 => Send::None,
+                        1 => Send::Heartbeat {
+                            number,
+                            id: first as u16,
+                        },
+                        2 => Send::Logout { number },
+                        3 => Send::GapFill {
+                            first: number,
+                            new: first,
+                        },
+                        _ => Send::ResendRequest {
+                            number,
+                            start: first,
+                            end: second,
+                        },
+                    };
+                    let given = giving(unchecked).map(|sends| sends.contains(&unchecked));
+                    // The struct must say all that the message says, and no more.
+                    let is_whole = unchecked.numbers().unwrap_or_default() == numbers;
+                    let is_given = given == Some(true) && is_whole;
+                    assert_eq!(Send::of_numbers(numbers).is_some(), is_given);
+                    taken += u32::from(is_given);
+                }
+            }
+        }
+    }
+    assert!(taken > 70, "{}", taken);
+}
+
 #[test]
 fn session_waiting() {
     // 1 before 2.
@@ -978,17 +1284,25 @@ fn session_waiting() {
         }
     );
     assert_eq!(state(&session), (Phase::Live, 3, LAST, 0));
-    for kind in [0, 1, 2, 4, 7, 8, 9, 10] {
-        let mut rng = Rng::new(u64::from(kind));
-        stops(waiting(3, 4), &make::message(&mut rng, kind, 3, US), 32);
+    for message_type in [0, 1, 2, 4, 7, 8, 9, 10] {
+        let mut rng = Rng::new(u64::from(message_type));
+        stops(
+            waiting(3, 4),
+            &make::message(&mut rng, message_type, 3, US),
+            32,
+        );
     }
 }
 
 #[test]
 fn session_live_types_and_resets() {
-    for kind in [5, 7, 8] {
-        let mut rng = Rng::new(u64::from(kind));
-        stops(live(3, 4), &make::message(&mut rng, kind, 3, US), 32);
+    for message_type in [5, 7, 8] {
+        let mut rng = Rng::new(u64::from(message_type));
+        stops(
+            live(3, 4),
+            &make::message(&mut rng, message_type, 3, US),
+            32,
+        );
     }
     // 4: n is ignored, also a lower one and the last one.
     for n in [1, 3, 9, LAST] {
@@ -1191,14 +1505,14 @@ fn session_live_in_turn() {
     }
 
     let mut rng = Rng::new(3);
-    for (kind, sort) in [
+    for (message_type, sort) in [
         (0, RowSort::Session),
         (3, RowSort::Session),
         (9, RowSort::Business),
         (10, RowSort::Business),
     ] {
         let mut session = live(3, 4);
-        let answer = session.step(&make::message(&mut rng, kind, 3, US));
+        let answer = session.step(&make::message(&mut rng, message_type, 3, US));
         assert_eq!(
             answer,
             Answer {
@@ -1252,10 +1566,10 @@ fn laid(many: &Many, rows: &[[u32; A_ROW]], sends: &[[u32; A_SEND]]) {
     }
 }
 
-/// How a call ended: used, why, the code, the bytes needed.
+/// How a call ended: used, why, the code, what is returned besides.
 fn end(done: &Done) -> (usize, Ended, u32, usize) {
     assert_eq!(done.refusal, 0);
-    (done.used, done.ended, done.code, done.needed)
+    (done.used, done.ended, done.code, done.besides)
 }
 
 /// A business message behind E that says so: a step on it gives nothing.
@@ -1329,8 +1643,8 @@ fn many_until_down() {
     assert_eq!(state(&session), (Phase::Down, 4, 4, 0));
 }
 
-/// Every step that stops the session, and what it uses: 2 and 3 nothing, all
-/// others their Length.
+/// Every step that stops the session, what it returns besides, and what it uses:
+/// 2 and 3 nothing, all others their Length.
 #[test]
 fn many_until_stopped() {
     let good = business(3);
@@ -1338,28 +1652,32 @@ fn many_until_stopped() {
     let mut foreign = business(4);
     foreign[10] = b'X';
     make::reseal(&mut foreign);
-    for (last, code, uses) in [
-        (vec![7], 2, false),
-        (vec![7; 80], 2, false),
-        (vec![2, 57, 0], 3, false),
-        (vec![2, 1, 16, 9], 3, false),
-        (framed(11, 4, &[], &[]), 5, true),
-        (framed(0, 0, &[], &[]), 6, true),
-        (framed(0, 4, &[40], &[]), 7, true),
-        (framed(1, 4, &[], &[]), 8, true),
-        (framed(1, 4, &[0], &[1]), 9, true),
-        (framed(0, 4, &[], &[1]), 10, true),
-        (business(2), 30, true),
-        (foreign, 31, true),
-        (logon(4, 7), 32, true),
-        (reset(4, 2), 33, true),
-        (resend(4, 0, 0), 34, true),
+    for (last, code, besides, uses) in [
+        (vec![7], 2, 0, false),
+        (vec![7; 80], 2, 0, false),
+        (vec![2, 57, 0], 3, 0, false),
+        (vec![2, 1, 16, 9], 3, 0, false),
+        (framed(11, 4, &[], &[]), 5, 0, true),
+        (framed(0, 0, &[], &[]), 6, 0, true),
+        (framed(0, 4, &[40], &[]), 7, 40, true),
+        (framed(0, 4, &[255], &[]), 7, 255, true),
+        (framed(1, 4, &[], &[]), 8, 0, true),
+        (framed(2, 4, &[0], &[]), 8, 1, true),
+        (framed(1, 4, &[0], &[1]), 9, 0, true),
+        (framed(2, 4, &[0, 1], &[1; 7]), 9, 1, true),
+        (framed(0, 4, &[], &[1]), 10, 1, true),
+        (framed(0, 4, &[0], &[1; 9]), 10, 7, true),
+        (business(2), 30, 0, true),
+        (foreign, 31, 0, true),
+        (logon(4, 7), 32, 0, true),
+        (reset(4, 2), 33, 0, true),
+        (resend(4, 0, 0), 34, 0, true),
     ] {
         let bytes = [&good[..], &last].concat();
         let used = if uses { bytes.len() } else { good.len() };
         let mut session = live(3, 7);
         let stopped = many(&mut session, &bytes, ROOMY, ROOMY);
-        assert_eq!(end(&stopped.done), (used, Ended::Down, code, 0));
+        assert_eq!(end(&stopped.done), (used, Ended::Down, code, besides));
         laid(&stopped, &[row], &[[2, 7, 0, 0]]);
         assert_eq!(state(&session), (Phase::Down, 4, 8, 0));
     }
@@ -1403,7 +1721,7 @@ fn many_refused() {
         sends: 0,
         ended: Ended::Down,
         code: 20,
-        needed: 0,
+        besides: 0,
     };
     let no_room = Done {
         refusal: 11,
@@ -1412,7 +1730,7 @@ fn many_refused() {
         sends: 2,
         ended: Ended::NoSlot,
         code: 0,
-        needed: 0,
+        besides: 0,
     };
     // 20 comes before 11.
     for (row_room, send_room) in [(0, 0), (4, 8), (5, 7), (5, 8), (ROOMY, ROOMY)] {
@@ -1557,6 +1875,7 @@ fn many_go_on_in_full_lists() {
 fn many_as_single_steps() {
     let mut rng = Rng::new(9);
     let mut endings = [0u32; 4];
+    let mut told_besides = 0;
     let mut steps = 0;
     for _ in 0..3_000 {
         let start = make::start(&mut rng);
@@ -1573,11 +1892,12 @@ fn many_as_single_steps() {
             let many = many(&mut session, &bytes, row_room, send_room);
             endings[many.done.ended as usize] += 1;
             let (mut rows, mut sends) = (Vec::new(), Vec::new());
-            let (mut used, mut code) = (0, 0);
+            let mut used = 0;
+            let mut last = NOTHING;
             while used < many.done.used {
                 let answer = single.step(&bytes[used..]);
-                code = answer.code;
-                let length = session::used(code, &bytes[used..]);
+                last = answer;
+                let length = session::used(answer.code, &bytes[used..]);
                 rows.extend(answer.row.numbers(used as u32, length as u32));
                 sends.extend(answer.sends.iter().filter_map(Send::numbers));
                 used += length;
@@ -1585,16 +1905,20 @@ fn many_as_single_steps() {
             }
             if many.done.ended == Ended::Down && single.phase != Phase::Down {
                 // The step that stopped the session used nothing: 2 or 3.
-                let answer = single.step(&bytes[used..]);
-                code = answer.code;
-                assert!(code == 2 || code == 3);
-                sends.extend(answer.sends.iter().filter_map(Send::numbers));
+                last = single.step(&bytes[used..]);
+                assert!(last.code == 2 || last.code == 3);
+                sends.extend(last.sends.iter().filter_map(Send::numbers));
             }
             laid(&many, &rows, &sends);
             assert_eq!(single, session);
-            if many.done.ended == Ended::Down {
-                assert_eq!(many.done.code, code);
-            }
+            let (code, besides) = match many.done.ended {
+                Ended::Down => (last.code, last.besides),
+                Ended::Short => (0, single.step(&bytes[used..]).besides),
+                Ended::NoSlot => (0, 0),
+            };
+            let done = (many.done.code, many.done.besides);
+            assert_eq!(done, (code, besides as usize));
+            told_besides += u32::from(many.done.ended == Ended::Down && besides > 0);
             if rng.chance(20) {
                 break;
             }
@@ -1606,6 +1930,7 @@ fn many_as_single_steps() {
         endings
     );
     assert!(steps > 3_000 * 5, "{}", steps);
+    assert!(told_besides > 10, "{}", told_besides);
 }
 
 // ---- Random input; plain against reader, writer and session ----
@@ -1624,10 +1949,10 @@ fn plain_reads_as_reader() {
     let mut rng = Rng::new(5);
     let mut seen = [0u32; 11];
     for _ in 0..60_000 {
-        let kind = rng.below(11) as u8;
+        let message_type = make::message_type(&mut rng);
         let number = rng.any_u32().max(1);
         let comp_id = make::comp_id(&mut rng);
-        let good = make::message(&mut rng, kind, number, &comp_id);
+        let good = make::message(&mut rng, message_type, number, &comp_id);
         assert_eq!(plain::read(&good), reader::read(&good));
         let mut bytes = make::spoil(&mut rng, &good);
         if rng.chance(20) {
@@ -1642,10 +1967,10 @@ fn plain_reads_as_reader() {
 
 /// A good message of some type, in half of the cases spoiled.
 fn good_or_spoiled(rng: &mut Rng) -> Vec<u8> {
-    let kind = rng.below(11) as u8;
+    let message_type = make::message_type(rng);
     let number = rng.any_u32().max(1);
     let comp_id = make::comp_id(rng);
-    let good = make::message(rng, kind, number, &comp_id);
+    let good = make::message(rng, message_type, number, &comp_id);
     if rng.chance(50) {
         make::spoil(rng, &good)
     } else {
@@ -1710,7 +2035,7 @@ fn spoil_parts(
     body: &mut Vec<u8>,
 ) {
     match rng.below(10) {
-        0 => head.kind = rng.byte(),
+        0 => head.message_type = rng.byte(),
         1 => head.number = 0,
         2 => head.poss_dup = rng.byte(),
         3 => head.poss_resend = rng.byte(),
@@ -1741,13 +2066,13 @@ fn plain_writes_as_writer() {
     let mut seen = [0u32; 12];
     for _ in 0..20_000 {
         let mut head = HeadValues {
-            kind: rng.below(11) as u8,
+            message_type: make::message_type(&mut rng),
             number: rng.any_u32().max(1),
             poss_dup: rng.below(2) as u8,
             poss_resend: rng.below(2) as u8,
         };
         let mut comp_id = make::comp_id(&mut rng);
-        let (mut map, mut body) = make::map_and_body(&mut rng, head.kind, &[]);
+        let (mut map, mut body) = make::map_and_body(&mut rng, head.message_type, &[]);
         if rng.chance(50) {
             spoil_parts(&mut rng, &mut head, &mut comp_id, &mut map, &mut body);
         }
@@ -1800,7 +2125,7 @@ fn random_bytes_never_panic() {
             *byte = rng.byte();
         }
         let head = HeadValues {
-            kind: rng.below(12) as u8,
+            message_type: rng.below(12) as u8,
             number: rng.below(3) as u32,
             poss_dup: rng.below(3) as u8,
             poss_resend: 0,
@@ -1845,6 +2170,8 @@ fn plain_steps_as_session() {
                     rows[answer.row.sort as usize] += 1;
                     two_sends += (answer.sends[1] != Send::None) as u32;
                     for send in &answer.sends {
+                        let numbers = send.numbers().unwrap_or_default();
+                        assert_eq!(Send::of_numbers(numbers), Some(*send));
                         let sent = send.bytes(&start.comp_id).unwrap();
                         assert!(sent.is_empty() || reader::read(&sent).is_ok());
                     }

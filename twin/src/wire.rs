@@ -158,15 +158,15 @@ fn take(position: usize, field: Field, rest: &[u8]) -> Option<Found<'_>> {
 }
 
 /// Walks a body: refusals 7 to 10 in this order, or all its fields in rising
-/// position. `kind` is at most 10.
-pub fn walk<'a>(kind: u8, map: &[u8], body: &'a [u8]) -> Result<Vec<Found<'a>>, Refusal> {
+/// position. The type is one that is held.
+pub fn walk<'a>(message_type: u8, map: &[u8], body: &'a [u8]) -> Result<Vec<Found<'a>>, Refusal> {
     for position in 0..256 {
-        if is_set(map, position) && tables::find(kind, position).is_none() {
+        if is_set(map, position) && tables::find(message_type, position).is_none() {
             return Err(refuse(UNKNOWN_POSITION, position));
         }
     }
     for position in 0..256 {
-        if let Some(entry) = tables::find(kind, position) {
+        if let Some(entry) = tables::find(message_type, position) {
             if entry.required && !is_set(map, position) {
                 return Err(refuse(MISSING_FIELD, position));
             }
@@ -178,7 +178,7 @@ pub fn walk<'a>(kind: u8, map: &[u8], body: &'a [u8]) -> Result<Vec<Found<'a>>, 
         if !is_set(map, position) {
             continue;
         }
-        if let Some(entry) = tables::find(kind, position) {
+        if let Some(entry) = tables::find(message_type, position) {
             let found =
                 take(position, entry.field, rest).ok_or_else(|| refuse(BAD_FIELD, position))?;
             rest = &rest[found.whole.len()..];

@@ -2,13 +2,13 @@
 //! messages that a session sends.
 
 use crate::crc::crc32c;
-use crate::tables::{self, Sort};
+use crate::tables::{self, types, Sort};
 use crate::wire::*;
 
 /// The header values that the caller gives; the Comp ID comes beside them.
 #[derive(Clone, Copy, Debug, PartialEq, Eq)]
 pub struct HeadValues {
-    pub kind: u8,
+    pub message_type: u8,
     pub number: u32,
     pub poss_dup: u8,
     pub poss_resend: u8,
@@ -27,7 +27,7 @@ fn check_room(length: usize, room: usize) -> Result<(), Refusal> {
 
 /// Refusals 5 and 6. The Comp ID comes as its characters, without a null.
 fn check_head(head: &HeadValues, comp_id: &[u8]) -> Result<(), Refusal> {
-    if head.kind > 10 {
+    if head.message_type > types::LAST {
         return Err(refuse(UNKNOWN_TYPE, 0));
     }
     if head.number == 0 || head.poss_dup > 1 || head.poss_resend > 1 || !is_comp_id(comp_id) {
@@ -69,14 +69,14 @@ pub fn write(
     out: &mut [u8],
 ) -> Result<usize, Refusal> {
     check_head(head, comp_id)?;
-    let fields = walk(head.kind, map, body)?;
+    let fields = walk(head.message_type, map, body)?;
     let body = plain_body(&fields);
     let length = BODY_AT + body.len() + TRAILER;
     check_room(length, out.len())?;
 
     let mut message = vec![START];
     message.extend_from_slice(&(length as u16).to_le_bytes());
-    message.push(head.kind);
+    message.push(head.message_type);
     message.extend_from_slice(&head.number.to_le_bytes());
     message.push(head.poss_dup);
     message.push(head.poss_resend);
@@ -91,7 +91,7 @@ pub fn write(
 }
 
 /// Lays bytes at the front of a slice; 11 with the length needed.
-fn put(bytes: &[u8], out: &mut [u8]) -> Result<usize, Refusal> {
+pub fn put(bytes: &[u8], out: &mut [u8]) -> Result<usize, Refusal> {
     if out.len() < bytes.len() {
         return Err(refuse(NO_ROOM, bytes.len()));
     }
@@ -154,9 +154,9 @@ fn sent(
     Ok(out[..length].to_vec())
 }
 
-fn flags_zero(kind: u8, number: u32) -> HeadValues {
+fn flags_zero(message_type: u8, number: u32) -> HeadValues {
     HeadValues {
-        kind,
+        message_type,
         number,
         poss_dup: 0,
         poss_resend: 0,
@@ -176,27 +176,29 @@ pub fn logon(
     let mut body = password.to_vec();
     body.resize(width, 0);
     body.extend_from_slice(&next_expected.to_le_bytes());
-    sent(flags_zero(5, number), comp_id, &[0, 2], &body)
+    sent(flags_zero(types::LOGON, number), comp_id, &[0, 2], &body)
 }
 
 /// Logout (6): no field.
 pub fn logout(number: u32, comp_id: &[u8]) -> Result<Vec<u8>, Refusal> {
-    sent(flags_zero(6, number), comp_id, &[], &[])
+    sent(flags_zero(types::LOGOUT, number), comp_id, &[], &[])
 }
 
 /// Heartbeat (0) that echoes a Test Request ID.
 pub fn heartbeat_for(number: u32, comp_id: &[u8], id: u16) -> Result<Vec<u8>, Refusal> {
-    sent(flags_zero(0, number), comp_id, &[0], &id.to_le_bytes())
+    let head = flags_zero(types::HEARTBEAT, number);
+    sent(head, comp_id, &[0], &id.to_le_bytes())
 }
 
 /// Heartbeat (0) of its own accord: no field.
 pub fn heartbeat(number: u32, comp_id: &[u8]) -> Result<Vec<u8>, Refusal> {
-    sent(flags_zero(0, number), comp_id, &[], &[])
+    sent(flags_zero(types::HEARTBEAT, number), comp_id, &[], &[])
 }
 
 /// Test Request (1).
 pub fn test_request(number: u32, comp_id: &[u8], id: u16) -> Result<Vec<u8>, Refusal> {
-    sent(flags_zero(1, number), comp_id, &[0], &id.to_le_bytes())
+    let head = flags_zero(types::TEST_REQUEST, number);
+    sent(head, comp_id, &[0], &id.to_le_bytes())
 }
 
 /// Resend Request (2); an end of 0 asks for all.
@@ -206,9 +208,10 @@ pub fn resend_request(
     start: u32,
     end: u32,
 ) -> Result<Vec<u8>, Refusal> {
+    let head = flags_zero(types::RESEND_REQUEST, number);
     let mut body = start.to_le_bytes().to_vec();
     body.extend_from_slice(&end.to_le_bytes());
-    sent(flags_zero(2, number), comp_id, &[0, 1], &body)
+    sent(head, comp_id, &[0, 1], &body)
 }
 
 /// Sequence Reset (4) as a gap fill: it bears the first number it covers, and
@@ -216,7 +219,7 @@ pub fn resend_request(
 pub fn gap_fill(first: u32, comp_id: &[u8], new: u32) -> Result<Vec<u8>, Refusal> {
     let head = HeadValues {
         poss_dup: 1,
-        ..flags_zero(4, first)
+        ..flags_zero(types::SEQUENCE_RESET, first)
     };
     let mut body = vec![b'Y'];
     body.extend_from_slice(&new.to_le_bytes());
@@ -233,9 +236,9 @@ mod tests {
         assert_eq!(check_room(4096, 4096), Ok(()));
         assert_eq!(check_room(4097, 0), Err(refuse(12, 0)));
         assert_eq!(check_room(4096, 4095), Err(refuse(11, 4096)));
-        for kind in 0..=10 {
+        for message_type in 0..=types::LAST {
             let most: usize = (0..256)
-                .filter_map(|position| tables::find(kind, position))
+                .filter_map(|position| tables::find(message_type, position))
                 .map(|entry| entry.field.width + 2)
                 .sum();
             assert!(LEAST + most < MOST);

@@ -1,41 +1,44 @@
 -- Many messages in one call (document 02, item 1), as C sees it.
 use Prim.Native.Nat.{ℕ}
 use mathlib.Core.Bool.{cond}
+use mathlib.Core.Path.{_≡_}
 use mathlib.Core.List.{List}
+use lib.ListN.{length}
 use Rattle.session.specs.declared.steps.Done.{Done}
 use Rattle.session.specs.declared.steps.Ended.{Ended}
 use Rattle.session.specs.declared.steps.Ended.the-variants.{Short, Down, NoSlot}
+use Rattle.session.specs.State.{codeNumber, codeBesides}
 use Rattle.session.specs.Steps.{steps, rowsAfter, sendsAfter}
 use Rattle.capi.specs.declared.shape.CDone.{CDone}
 use Rattle.capi.specs.declared.shape.CSession.{CSession}
 use Rattle.capi.specs.Sessions.{shownSession, sessionIn, isSession, notASession}
 
--- why a call ended, in numbers: the reason, Down's code, and what Short needs
+-- why a call ended, in numbers: the reason, Down's code, and what comes besides: the bytes that Short needs, or what the reader returned with that code
 unfoldable pub endedNumber : Ended → ℕ
 endedNumber (Short n) = 1
-endedNumber (Down code) = 2
+endedNumber (Down k) = 2
 endedNumber NoSlot = 3
 
 unfoldable pub endedCode : Ended → ℕ
 endedCode (Short n) = 0
-endedCode (Down code) = code
+endedCode (Down k) = codeNumber k
 endedCode NoSlot = 0
 
-unfoldable pub endedNeeds : Ended → ℕ
-endedNeeds (Short n) = n
-endedNeeds (Down code) = 0
-endedNeeds NoSlot = 0
+unfoldable pub endedBesides : Ended → ℕ
+endedBesides (Short n) = n
+endedBesides (Down k) = codeBesides k
+endedBesides NoSlot = 0
 
 unfoldable pub shownDone : Done → CDone
 shownDone x = record {
-  refusal = x .code;
+  refusal = codeNumber (x .code);
   session = shownSession (x .session);
   used = x .used;
   rows = x .rows;
   sends = x .sends;
   ended = endedNumber (x .ended);
   code = endedCode (x .ended);
-  needed = endedNeeds (x .ended);
+  besides = endedBesides (x .ended);
 }
 
 -- for lists of r and q numbers
@@ -43,7 +46,7 @@ unfoldable pub stepsC : CSession → List ℕ → ℕ → ℕ → CDone
 stepsC c s r q =
     cond (isSession c)
     (shownDone (steps (sessionIn c) s r q))
-    (record { refusal = notASession; session = c; used = 0; rows = 0; sends = 0; ended = 0; code = 0; needed = 0 })
+    (record { refusal = notASession; session = c; used = 0; rows = 0; sends = 0; ended = 0; code = 0; besides = 0 })
 
 -- and the lists afterwards
 unfoldable pub rowsC : CSession → List ℕ → List ℕ → List ℕ → List ℕ
@@ -51,3 +54,7 @@ rowsC c s rows sends = cond (isSession c) (rowsAfter (sessionIn c) s rows sends)
 
 unfoldable pub sendsC : CSession → List ℕ → List ℕ → List ℕ → List ℕ
 sendsC c s rows sends = cond (isSession c) (sendsAfter (sessionIn c) s rows sends) sends
+
+-- a call: its report r, and the lists d and e afterwards
+abbrev pub TakesC : CSession → List ℕ → List ℕ → List ℕ → CDone → List ℕ → List ℕ → Type 0
+TakesC c s d e r d′ e′ = (r ≡ stepsC c s (length d) (length e)) × (d′ ≡ rowsC c s d e) × (e′ ≡ sendsC c s d e)

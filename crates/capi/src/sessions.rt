@@ -9,15 +9,25 @@ use crate::shape::CStepped;
 use crate::shape::CWritten;
 use crate::write::written_shown;
 use crate::write::wrote;
+use message::frame::COMP_ID_BYTES;
 use message::frame::front_length;
 use message::read::read;
-use session::arrival::arrival_by;
 use session::day::Connected;
 use session::day::Made;
+use session::held::DOWN;
+use session::held::LIVE;
+use session::held::WAITING;
+use session::state::LAST;
+use session::state::MOST_ID;
+use session::state::ROW_BUSINESS;
 use session::state::Row;
+use session::state::SEND_GAP_FILL;
+use session::state::SEND_HEARTBEAT;
+use session::state::SEND_LOGOUT;
+use session::state::SEND_NONE;
+use session::state::SEND_RESEND_REQUEST;
 use session::state::Send;
 use session::state::Session;
-use session::state::State;
 use session::state::Stepped;
 use session::state::ahead_at;
 use session::state::first_of;
@@ -38,131 +48,35 @@ ghost use lib.ListN.{length};
 ghost use Rattle.message.specs.Frame.{frontLength};
 ghost use Rattle.session.specs.declared.state.Row.the-variants.{Business};
 ghost use Rattle.session.specs.declared.state.Send.the-variants.{Nothing};
+ghost use mathlib.Core.Bool.{true};
 ghost use Rattle.session.specs.Day.{step};
+ghost use Rattle.session.specs.Held.{held};
 ghost use Rattle.session.specs.State.{take};
-ghost use Rattle.capi.specs.Steps.{endedNumber, endedCode, endedNeeds, shownDone, stepsC, rowsC, sendsC};
-ghost use Rattle.capi.specs.Sessions.{stateNumber, stateAt, shownSession, sessionIn, allZero, isPlainCompId, leastOwn, isAhead, isSession, made, shownMade, freshC, savedC, shownConnected, connectC, dropC, toSend, shownSend, shownRow, shownStepped, notStepped, usedBy, stepC, sendBy, sentBy, sendC, sentC, logonC, logonSentC};
+ghost use Rattle.capi.specs.Steps.{endedNumber, endedCode, endedBesides, shownDone, TakesC};
+ghost use Rattle.capi.specs.Sessions.{shownSession, sessionIn, notASession, made, shownMade, freshC, savedC, shownConnected, connectC, dropC, toSend, shownSend, shownRow, shownStepped, notStepped, usedBy, stepC, isOurNumber, isSend, sendBy, sentBy, SendsC, LogsOnC};
 
-// No day has such a session.
-pub const NOT_A_SESSION: u32 = 90;
 // No session gives such a message to send.
-pub const NOT_A_SEND: u32 = 91;
-
-fn state_number(state: State) -> u32
-    ensures { λ r. ⌜ r ≡ stateNumber state ⌝ }
-{
-    match state {
-        State::Down => 0,
-        State::Waiting => 1,
-        State::Live => 2,
-    }
-}
-
-fn state_at(n: u32) -> State
-    ensures { λ r. ⌜ r ≡ stateAt n ⌝ }
-{
-    match n {
-        0 => State::Down,
-        1 => State::Waiting,
-        _ => State::Live,
-    }
-}
+const NOT_A_SEND: u32 = 91;
 
 fn session_shown(s: Session) -> CSession
     ensures { λ r. ⌜ r ≡ shownSession s ⌝ }
 {
-    let state = s.state;
-    let ours = s.ours;
+    let state = s.state();
     CSession {
-        state: state_number(state),
-        ours,
-        expected: s.expected,
-        own: s.own,
-        ahead: s.ahead,
+        state: state.number(),
+        ours: s.ours(),
+        expected: s.expected(),
+        own: s.own(),
+        ahead: s.ahead(),
     }
 }
 
-fn session_in(c: CSession) -> Session
-    ensures { λ r. ⌜ r ≡ sessionIn c ⌝ }
+// The session that was handed in, or 90.
+fn session_in(c: CSession) -> Made
+    ensures { λ r. ⌜ r ≡ held (c .state) (c .ours) (c .expected) (c .own) (c .ahead) ⌝ }
 {
     let ours = c.ours;
-    Session {
-        state: state_at(c.state),
-        ours,
-        expected: c.expected,
-        own: c.own,
-        ahead: c.ahead,
-    }
-}
-
-fn is_all_zero(s: &[u8]) -> bool
-    ensures { λ r. ⌜ r ≡ allZero (now (s .entry)) ⌝ }
-{
-    let mut i = 0;
-    while i < s.len() {
-        if s[i] != 0 {
-            return false;
-        }
-        i += 1;
-    }
-    true
-}
-
-fn is_plain_comp_id(ours: &[u8]) -> bool
-    ensures { λ r. ⌜ r ≡ isPlainCompId (now (ours .entry)) ⌝ }
-{
-    let text = fixed_part(ours, 12);
-    if text.len() == 0 {
-        return false;
-    }
-    if ours.len() < text.len() {
-        return true;
-    }
-    is_all_zero(&ours[text.len()..])
-}
-
-fn least_own(state: u32) -> u32
-    ensures { λ r. ⌜ r ≡ leastOwn state ⌝ }
-{
-    if state == 0 { 1 } else { 2 }
-}
-
-fn is_ahead(c: CSession) -> bool
-    ensures { λ r. ⌜ r ≡ isAhead c ⌝ }
-{
-    if c.ahead == 0 {
-        return true;
-    }
-    if c.state != 2 {
-        return false;
-    }
-    if c.ahead < 2 {
-        return false;
-    }
-    if c.ahead < c.expected {
-        return false;
-    }
-    3 <= c.own
-}
-
-// Whether some day has such a session.
-fn is_session(c: CSession) -> bool
-    ensures { λ r. ⌜ r ≡ isSession c ⌝ }
-{
-    let ours = c.ours;
-    if 2 < c.state {
-        return false;
-    }
-    if !is_plain_comp_id(&ours) {
-        return false;
-    }
-    if c.expected == 0 {
-        return false;
-    }
-    if c.own < least_own(c.state) {
-        return false;
-    }
-    is_ahead(c)
+    Session::held(c.state, ours, c.expected, c.own, c.ahead)
 }
 
 fn made(refusal: u32, session: CSession) -> CMade
@@ -175,7 +89,8 @@ fn made_shown(m: Made) -> CMade
     ensures { λ r. ⌜ r ≡ shownMade m ⌝ }
 {
     let s = m.session;
-    made(m.code, session_shown(s))
+    let code = m.code;
+    made(code.number(), session_shown(s))
 }
 
 // A fresh day.
@@ -196,11 +111,13 @@ fn connected_shown(x: Connected) -> CConnected
     ensures { λ r. ⌜ r ≡ shownConnected x ⌝ }
 {
     let s = x.session;
+    let code = x.code;
     CConnected {
-        refusal: x.code,
+        refusal: code.number(),
         session: session_shown(s),
         number: x.number,
         next: x.next,
+        besides: code.besides(),
     }
 }
 
@@ -208,25 +125,34 @@ fn connected_shown(x: Connected) -> CConnected
 pub fn connect_c(c: CSession, password: &[u8]) -> CConnected
     ensures { λ r. ⌜ r ≡ connectC c (now (password .entry)) ⌝ }
 {
-    if !is_session(c) {
+    let held = session_in(c);
+    let session = held.session;
+    let code = held.code;
+    let refusal = code.number();
+    if refusal != 0 {
         return CConnected {
-            refusal: NOT_A_SESSION,
+            refusal,
             session: c,
             number: 0,
             next: 0,
+            besides: 0,
         };
     }
-    connected_shown(session_in(c).connect(password))
+    connected_shown(session.connect(password))
 }
 
 // The line is gone.
 pub fn drop_c(c: CSession) -> CMade
     ensures { λ r. ⌜ r ≡ dropC c ⌝ }
 {
-    if !is_session(c) {
-        return made(NOT_A_SESSION, c);
+    let held = session_in(c);
+    let session = held.session;
+    let code = held.code;
+    let refusal = code.number();
+    if refusal != 0 {
+        return made(refusal, c);
     }
-    made(0, session_shown(session_in(c).drop()))
+    made(0, session_shown(session.drop()))
 }
 
 fn to_send(kind: u32, number: u32, first: u32, second: u32) -> CSend
@@ -265,33 +191,36 @@ fn stepped_shown(x: Stepped, used: usize) -> CStepped
     let first = answer.first;
     let second = answer.second;
     let row = answer.row;
+    let code = answer.code;
     CStepped {
-        refusal: answer.code,
+        refusal: code.number(),
         session: session_shown(s),
         first: send_shown(first),
         second: send_shown(second),
         row: row_shown(row),
         used,
+        besides: code.besides(),
     }
 }
 
-fn not_stepped(c: CSession) -> CStepped
-    ensures { λ r. ⌜ r ≡ notStepped c ⌝ }
+fn not_stepped(c: CSession, refusal: u32) -> CStepped
+    ensures { λ r. ⌜ (refusal ≡ notASession → r ≡ notStepped c) ⌝ }
 {
     CStepped {
-        refusal: NOT_A_SESSION,
+        refusal,
         session: c,
-        first: to_send(0, 0, 0, 0),
-        second: to_send(0, 0, 0, 0),
+        first: to_send(SEND_NONE, 0, 0, 0),
+        second: to_send(SEND_NONE, 0, 0, 0),
         row: row_shown(Row::Nothing),
         used: 0,
+        besides: 0,
     }
 }
 
 fn used_by(state: u32, s: &[u8]) -> usize
     ensures { λ r. ⌜ r ≡ usedBy state (now (s .entry)) ⌝ }
 {
-    if state == 0 {
+    if state == DOWN {
         return 0;
     }
     front_length(s)
@@ -307,54 +236,54 @@ fn in_turn(c: CSession, used: usize) -> CStepped
     CStepped {
         refusal: 0,
         session: CSession {
-            state: 2,
+            state: LIVE,
             ours,
             expected: e + 1,
             own: c.own,
             ahead: ahead_at(c.ahead, e + 1),
         },
-        first: to_send(0, 0, 0, 0),
-        second: to_send(0, 0, 0, 0),
+        first: to_send(SEND_NONE, 0, 0, 0),
+        second: to_send(SEND_NONE, 0, 0, 0),
         row: CRow {
-            kind: 1,
+            kind: ROW_BUSINESS,
             first: e,
             last: e,
         },
         used,
+        besides: 0,
     }
 }
 
 // A Live session. Business in its turn, which most messages of a day are, is answered before the rules: they take it and do
 // nothing else, so this answer is the step's own. It stands here and not in `session`, since there every way out would meet in
 // one answer in memory.
-fn live_step(c: CSession, s: &[u8]) -> CStepped
-    requires { ⌜ c .state ≡ 2 ⌝ }
+fn live_step(c: CSession, session: Session, s: &[u8]) -> CStepped
+    requires { ⌜ (c .state ≡ 2) × (session ≡ sessionIn c) ⌝ }
     ensures { λ r. ⌜ r ≡ shownStepped (frontLength (now (s .entry))) (step (sessionIn c) (now (s .entry))) ⌝ }
 {
-    let ours = c.ours;
-    let session = session_in(c);
     let reading = read(s);
     let size = session.due_length(s, reading);
     if size != 0 {
         return in_turn(c, size);
     }
-    stepped_shown(
-        session.arrived(arrival_by(&ours, s, reading)),
-        front_length(s),
-    )
+    stepped_shown(session.step_by(s, reading), front_length(s))
 }
 
 // One step on the message at the front of s.
 pub fn step_c(c: CSession, s: &[u8]) -> CStepped
     ensures { λ r. ⌜ r ≡ stepC c (now (s .entry)) ⌝ }
 {
-    if !is_session(c) {
-        return not_stepped(c);
+    let held = session_in(c);
+    let session = held.session;
+    let code = held.code;
+    let refusal = code.number();
+    if refusal != 0 {
+        return not_stepped(c, refusal);
     }
-    if c.state == 2 {
-        return live_step(c, s);
+    if c.state == LIVE {
+        return live_step(c, session, s);
     }
-    stepped_shown(session_in(c).step(s), used_by(c.state, s))
+    stepped_shown(session.step(s), used_by(c.state, s))
 }
 
 fn ended_number(ended: Ended) -> u32
@@ -372,17 +301,17 @@ fn ended_code(ended: Ended) -> u32
 {
     match ended {
         Ended::Short(_) => 0,
-        Ended::Down(code) => code,
+        Ended::Down(code) => code.number(),
         Ended::NoSlot => 0,
     }
 }
 
-fn ended_needs(ended: Ended) -> usize
-    ensures { λ r. ⌜ r ≡ endedNeeds ended ⌝ }
+fn ended_besides(ended: Ended) -> usize
+    ensures { λ r. ⌜ r ≡ endedBesides ended ⌝ }
 {
     match ended {
         Ended::Short(n) => n,
-        Ended::Down(_) => 0,
+        Ended::Down(code) => code.besides(),
         Ended::NoSlot => 0,
     }
 }
@@ -392,80 +321,117 @@ fn done_shown(x: Done) -> CDone
 {
     let s = x.session;
     let ended = x.ended;
+    let code = x.code;
     CDone {
-        refusal: x.code,
+        refusal: code.number(),
         session: session_shown(s),
         used: x.used,
         rows: x.rows,
         sends: x.sends,
         ended: ended_number(ended),
         code: ended_code(ended),
-        needed: ended_needs(ended),
+        besides: ended_besides(ended),
     }
 }
 
 // The messages of s, back to back, each stepped on in turn.
 pub fn steps_c(c: CSession, s: &[u8], rows: &mut [u32], sends: &mut [u32]) -> CDone
-    ensures { λ r. ⌜ (r ≡ stepsC c (now (s .entry)) (length (now (rows .entry))) (length (now (sends .entry)))) × (now (rows .exit) ≡ rowsC c (now (s .entry)) (now (rows .entry)) (now (sends .entry))) × (now (sends .exit) ≡ sendsC c (now (s .entry)) (now (rows .entry)) (now (sends .entry))) ⌝ }
+    ensures { λ r. ⌜ TakesC c (now (s .entry)) (now (rows .entry)) (now (sends .entry)) r (now (rows .exit)) (now (sends .exit)) ⌝ }
 {
-    if !is_session(c) {
+    let held = session_in(c);
+    let session = held.session;
+    let code = held.code;
+    let refusal = code.number();
+    if refusal != 0 {
         return CDone {
-            refusal: NOT_A_SESSION,
+            refusal,
             session: c,
             used: 0,
             rows: 0,
             sends: 0,
             ended: 0,
             code: 0,
-            needed: 0,
+            besides: 0,
         };
     }
-    done_shown(session_in(c).steps(s, rows, sends))
+    done_shown(session.steps(s, rows, sends))
 }
 
-// A Heartbeat's ID has two bytes.
-fn heartbeat_by(d: &mut [u8], x: CSend, comp: &[u8]) -> CWritten
-    requires { ⌜ x .kind ≡ 1 ⌝ }
-    ensures { λ r. ⌜ (r ≡ sendBy x (now (comp .entry)) (now (d .entry))) × (now (d .exit) ≡ sentBy x (now (comp .entry)) (now (d .entry))) ⌝ }
+// Whether a message of ours can bear this number.
+fn is_our_number(n: u32) -> bool
+    ensures { λ r. ⌜ r ≡ isOurNumber n ⌝ }
 {
-    if 65535 < x.first {
-        return wrote(NOT_A_SEND, 0, 0);
-    }
-    written_shown(put_heartbeat_for(d, comp, x.number, x.first as u16))
+    (2 <= n) & (n < LAST)
 }
 
-fn send_by(d: &mut [u8], x: CSend, comp: &[u8]) -> CWritten
+// Whether a step can give this message to send.
+fn is_send(x: CSend) -> bool
+    ensures { λ r. ⌜ r ≡ isSend x ⌝ }
+{
+    let kind = x.kind;
+    match kind {
+        SEND_NONE => (x.number == 0) & (x.first == 0) & (x.second == 0),
+        SEND_HEARTBEAT => is_our_number(x.number) & (x.first <= MOST_ID) & (x.second == 0),
+        SEND_LOGOUT => is_our_number(x.number) & (x.first == 0) & (x.second == 0),
+        SEND_GAP_FILL => (1 <= x.number) & (x.number < x.first) & (x.second == 0),
+        SEND_RESEND_REQUEST => {
+            is_our_number(x.number) & ((1 <= x.first) & (x.first < LAST)) & (x.second == 0)
+        }
+        _ => false,
+    }
+}
+
+// A message to send that a step can give.
+fn put_send(d: &mut [u8], x: CSend, comp: &[u8]) -> CWritten
+    requires { ⌜ isSend x ≡ true ⌝ }
     ensures { λ r. ⌜ (r ≡ sendBy x (now (comp .entry)) (now (d .entry))) × (now (d .exit) ≡ sentBy x (now (comp .entry)) (now (d .entry))) ⌝ }
 {
     let kind = x.kind;
     match kind {
-        0 => wrote(0, 0, 0),
-        1 => heartbeat_by(d, x, comp),
-        2 => written_shown(put_logout(d, comp, x.number)),
-        3 => written_shown(put_gap_fill(d, comp, x.number, x.first)),
-        4 => written_shown(put_resend_request(d, comp, x.number, x.first, x.second)),
-        _ => wrote(NOT_A_SEND, 0, 0),
+        SEND_NONE => wrote(0, 0, 0),
+        SEND_HEARTBEAT => { written_shown(put_heartbeat_for(d, comp, x.number, x.first as u16)) }
+        SEND_LOGOUT => written_shown(put_logout(d, comp, x.number)),
+        SEND_GAP_FILL => written_shown(put_gap_fill(d, comp, x.number, x.first)),
+        _ => written_shown(put_resend_request(d, comp, x.number, x.first, x.second)),
     }
 }
 
 // A message to send, as bytes at the front of d.
 pub fn send_c(d: &mut [u8], c: CSession, x: CSend) -> CWritten
-    ensures { λ r. ⌜ (r ≡ sendC c x (now (d .entry))) × (now (d .exit) ≡ sentC c x (now (d .entry))) ⌝ }
+    ensures { λ r. ⌜ SendsC c x (now (d .entry)) r (now (d .exit)) ⌝ }
 {
-    if !is_session(c) {
-        return wrote(NOT_A_SESSION, 0, 0);
+    let held = session_in(c);
+    let code = held.code;
+    let refusal = code.number();
+    if refusal != 0 {
+        return wrote(refusal, 0, 0);
+    }
+    if !is_send(x) {
+        return wrote(NOT_A_SEND, 0, 0);
     }
     let ours = c.ours;
-    send_by(d, x, fixed_part(&ours, 12))
+    put_send(d, x, fixed_part(&ours, COMP_ID_BYTES))
 }
 
-// Connect's Logon, as bytes at the front of d.
-pub fn logon_c(d: &mut [u8], c: CSession, number: u32, password: &[u8], next: u32) -> CWritten
-    ensures { λ r. ⌜ (r ≡ logonC c number (now (password .entry)) next (now (d .entry))) × (now (d .exit) ≡ logonSentC c number (now (password .entry)) next (now (d .entry))) ⌝ }
+// Connect's Logon, as bytes at the front of d: a Waiting session's number and Next Expected.
+pub fn logon_c(d: &mut [u8], c: CSession, password: &[u8]) -> CWritten
+    ensures { λ r. ⌜ LogsOnC c (now (password .entry)) (now (d .entry)) r (now (d .exit)) ⌝ }
 {
-    if !is_session(c) {
-        return wrote(NOT_A_SESSION, 0, 0);
+    let held = session_in(c);
+    let code = held.code;
+    let refusal = code.number();
+    if refusal != 0 {
+        return wrote(refusal, 0, 0);
+    }
+    if c.state != WAITING {
+        return wrote(NOT_A_SEND, 0, 0);
     }
     let ours = c.ours;
-    written_shown(put_logon(d, fixed_part(&ours, 12), number, password, next))
+    written_shown(put_logon(
+        d,
+        fixed_part(&ours, COMP_ID_BYTES),
+        c.own - 1,
+        password,
+        c.expected,
+    ))
 }

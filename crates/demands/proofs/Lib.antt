@@ -9,3 +9,6 @@ pub mod FirstCalls
 pub mod SecondCalls
 pub mod WorkedDay
 pub mod Figures
+pub mod Whole
+pub mod Bears
+pub mod WorkedReport

@@ -13,10 +13,11 @@ use Rattle.message.specs.Frame.{compIdIn, mapIn, bodyIn, frontLength}
 use Rattle.message.specs.Read.{readOf}
 use Rattle.message.proofs.FrameLaws.{own-comp-id, own-map, own-body}
 use Rattle.message.proofs.ReadLaws.{WholeAt, read-front, read-own}
+use Rattle.session.specs.Arrival.{arrivalOf}
 use Rattle.session.specs.declared.state.Session.{Session}
 use Rattle.session.specs.declared.state.State.{State}
 use Rattle.session.specs.declared.state.State.the-variants.{Down, Waiting, Live}
-use Rattle.session.specs.Day.{arrived, stepIn, step}
+use Rattle.session.specs.Day.{stepBy, arrived, stepIn, step}
 use Rattle.session.proofs.FrontLaws.{front-good}
 use Rattle.session.proofs.StepLaws.{arrival-more}
 use Rattle.demands.specs.Content.{Content, contentIn, said}
@@ -62,10 +63,10 @@ module _ (b r : List ℕ) (h : Header) (n : ℕ) (e : readOf b ≡ Good h n) (w 
   long k f = let z : _≡_ {A = ℕ} 0 1 = cc in omega arith
 
   pub more-step : (x : Session) → step x (b ++ r) ≡ step x b
-  unfolding step stepIn
+  unfolding step stepBy stepIn arrivalOf
   more-step x = go (x .state)
     where
-      go : (p : State) → stepIn p x (b ++ r) ≡ stepIn p x b
+      go : (p : State) → stepIn p x (b ++ r) (readOf (b ++ r)) ≡ stepIn p x b (readOf b)
       go Down = refl
       go Waiting = ap (arrived x) (arrival-more b r long (x .ours))
       go Live = ap (arrived x) (arrival-more b r long (x .ours))

@@ -26,8 +26,8 @@ use Rattle.session.specs.declared.state.State.the-variants.{Live}
 use Rattle.session.specs.declared.steps.Ended.{Ended}
 use Rattle.session.specs.declared.steps.Ended.the-variants.{Short}
 use Rattle.session.specs.Arrival.{arrivalBy, arrivalOf}
-use Rattle.session.specs.Day.{refused, arrived, stepIn, step}
-use Rattle.session.specs.State.{last, sortNumber, told, unmoved, take}
+use Rattle.session.specs.Day.{stepBy, refused, arrived, stepIn, step}
+use Rattle.session.specs.State.{codeNumber, last, sortNumber, told, unmoved, take}
 use Rattle.session.specs.Steps.{
   rowAt,
   sendIn,
@@ -107,14 +107,14 @@ turn-on : (k at r q f n : ℕ) (s : Session) (left : List ℕ) (w : Row) → ste
     → let x = turns k (at + n) (r - length (rowNumbers (rowAt at n w))) q (take s f (s .own) send.Nothing w .session) (drop n left) in
     turns (suc k) at r q s left
     ≡ record { session = x .session; used = n + x .used; rows = rowAt at n w ++ x .rows; sends = x .sends; after = x .after }
-unfolding turns follow turnOf turnBy fits stepDone nextOf andThen joined take sendsOf sendIn told sendNumbers
+unfolding turns follow turnOf turnBy fits stepDone nextOf andThen joined take codeNumber sendsOf sendIn told sendNumbers
 turn-on k at r q f n s left w t l a h =
     let m : length (rowNumbers (rowAt at 0 w)) ≤ r = omega (arith, row-length at 0 w) in
     simp (t, l, le-leb at last a, le-leb (length (rowNumbers (rowAt at 0 w))) r m, le-leb 0 q (omega arith), sub-zero)
 
 -- where no byte is left the next message is waited for, which needs 3
 turns-end : (k at r q : ℕ) (s : Session) → s .state ≡ Live → turns k at r q s [] ≡ did s (Short 3)
-unfolding turns follow turnOf turnBy andThen neededBy step stepIn arrived refused unmoved arrivalOf arrivalBy readOf readFramed framed numberOf besidesOf
+unfolding turns follow turnOf turnBy andThen neededBy step stepBy stepIn arrived refused unmoved codeNumber arrivalBy readOf readFramed framed numberOf besidesOf
 turns-end zero at r q s p = refl
 turns-end (suc k) at r q s p = simp p
 

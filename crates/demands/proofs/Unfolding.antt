@@ -18,6 +18,8 @@ use Rattle.message.specs.declared.read.Reading.{Reading}
 use Rattle.message.specs.declared.read.Reading.the-variants as reading
 use Rattle.message.specs.Frame.{frontLength}
 use Rattle.message.specs.Read.{readOf}
+use Rattle.session.specs.declared.state.Code.{Code}
+use Rattle.session.specs.declared.state.Code.the-variants as code
 use Rattle.session.specs.declared.state.Row.{Row}
 use Rattle.session.specs.declared.state.Row.the-variants as row
 use Rattle.session.specs.declared.state.Session.{Session}
@@ -27,7 +29,7 @@ use Rattle.session.specs.declared.state.State.the-variants.{Down, Waiting, Live
 use Rattle.session.specs.declared.steps.Ended.{Ended}
 use Rattle.session.specs.Arrival.{arrivalOf}
 use Rattle.session.specs.Day.{step}
-use Rattle.session.specs.State.{sortNumber}
+use Rattle.session.specs.State.{codeNumber, sortNumber}
 use Rattle.session.specs.Steps.{
   Placed,
   rowAt,
@@ -157,7 +159,7 @@ module _ (bytes : List ℕ) (k : ℕ)
   done-lent Live r′ q′ = on-lent r′ q′
 
   -- the call ends before its step, at code 1 or without a free slot, or its step is done
-  turn-lent : (a b : Bool) → eqb (step s left .answer .code) 1 ≡ a → fits at r q (step s left .answer) ≡ b
+  turn-lent : (a b : Bool) → eqb (codeNumber (step s left .answer .code)) 1 ≡ a → fits at r q (step s left .answer) ≡ b
       → Lent s left (turns (suc k) at r q s left .session) (handedRows bytes (turns (suc k) at r q s left .rows))
   unfolding turns follow turnOf turnBy andThen handedRows stepDone
   turn-lent true b p f = rw p (none-lent s left)
@@ -169,7 +171,7 @@ turns-lent : (bytes : List ℕ) (k at r q : ℕ) (s : Session) (left : List ℕ)
 unfolding turns handedRows
 turns-lent bytes zero at r q s left e = none-lent s left
 turns-lent bytes (suc k) at r q s left e =
-    turn-lent bytes k (turns-lent bytes k) at r q s left e (eqb (step s left .answer .code) 1) (fits at r q (step s left .answer)) refl refl
+    turn-lent bytes k (turns-lent bytes k) at r q s left e (eqb (codeNumber (step s left .answer .code)) 1) (fits at r q (step s left .answer)) refl refl
 
 -- the turns on what is left of a slice at a place
 pub course-lent : (bytes : List ℕ) (at r q : ℕ) (s : Session)
@@ -180,7 +182,9 @@ course-lent bytes at r q s = turns-lent bytes (length (drop at bytes)) at r q s 
 -- a call, which does nothing where it is refused
 pub call-lent : (s : Session) (b : List ℕ) (r q : ℕ) → Lent s b (called s b r q .session) (handedRows b (called s b r q .rows))
 unfolding called calledBy handedRows
-call-lent s b r q =
-    let P : Did Ended → Type 0 = λ x. Lent s b (x .session) (handedRows b (x .rows)) in
-    either P (eqb (refusalIn (s .state) r q) 0) (λ t. course-lent b 0 r q s)
-    (λ t. either P (eqb (refusalIn (s .state) r q) 20) (λ u. none-lent s b) (λ u. none-lent s b))
+call-lent s b r q = go (refusalIn (s .state) r q)
+  where
+    go : (k : Code) → Lent s b (calledBy k s b r q .session) (handedRows b (calledBy k s b r q .rows))
+    go code.Good = course-lent b 0 r q s
+    go (code.Refused x) = none-lent s b
+    go (code.Halted h) = none-lent s b

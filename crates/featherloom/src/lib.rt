@@ -13,19 +13,20 @@ use capi::shape::CStepped;
 use capi::shape::CValue;
 use capi::shape::CWritten;
 ghost use mathlib.Core.Path.{_≡_};
-ghost use lib.ListN.{length};
 ghost use Rattle.crc.specs.Crc.{crc32c};
-ghost use Rattle.message.specs.Read.{readOf};
-ghost use Rattle.message.specs.List.{listBy, listFields};
-ghost use Rattle.plan.specs.Plan.{planOf, planned};
-ghost use Rattle.spelt.specs.Spelt.{amountText};
-ghost use Rattle.wire.specs.Laying.{laid, laidAnswer};
-ghost use Rattle.writer.specs.Write.{writeOf, written};
-ghost use Rattle.capi.specs.Planning.{shownPlanned};
-ghost use Rattle.capi.specs.Reading.{readC, shownListed, compIdC, mapC, bodyC, askC, textC};
-ghost use Rattle.capi.specs.Sessions.{freshC, savedC, connectC, dropC, stepC, sendC, sentC, logonC, logonSentC};
-ghost use Rattle.capi.specs.Steps.{stepsC, rowsC, sendsC};
-ghost use Rattle.capi.specs.Writing.{shownWritten, shownLaid, headerOf};
+ghost use Rattle.capi.specs.Reading.{readC, compIdC, mapC, bodyC, askC, textC, ListsC};
+ghost use Rattle.capi.specs.Sessions.{freshC, savedC, connectC, dropC, stepC, SendsC, LogsOnC};
+ghost use Rattle.capi.specs.Version.{version};
+ghost use Rattle.capi.specs.Planning.{PlansC};
+ghost use Rattle.capi.specs.Steps.{TakesC};
+ghost use Rattle.capi.specs.Writing.{WritesC, SpellsC};
+
+#[no_mangle]
+pub extern "C" fn featherloom_version() -> u32
+    ensures { λ r. ⌜ r ≡ version ⌝ }
+{
+    capi::version::version_c()
+}
 
 #[no_mangle]
 pub extern "C" fn featherloom_read(bytes: &[u8]) -> CReading
@@ -71,7 +72,7 @@ pub extern "C" fn featherloom_text(bytes: &[u8], position: usize) -> CPart
 
 #[no_mangle]
 pub extern "C" fn featherloom_fields(bytes: &[u8], numbers: &mut [u64]) -> CListed
-    ensures { λ r. ⌜ (r ≡ shownListed (listFields (now (bytes .entry)) (now (numbers .entry)))) × (now (numbers .exit) ≡ laid (listBy (now (bytes .entry)) (readOf (now (bytes .entry)))) (now (numbers .entry))) ⌝ }
+    ensures { λ r. ⌜ ListsC (now (bytes .entry)) (now (numbers .entry)) r (now (numbers .exit)) ⌝ }
 {
     capi::read::fields_c(bytes, numbers)
 }
@@ -91,14 +92,14 @@ pub extern "C" fn featherloom_write(
     map: &[u8; 32],
     body: &[u8],
 ) -> CWritten
-    ensures { λ r. ⌜ (r ≡ shownWritten (writeOf (headerOf header) (now (comp .entry)) (now (map .entry)) (now (body .entry)) (now (buffer .entry)))) × (now (buffer .exit) ≡ written (headerOf header) (now (comp .entry)) (now (map .entry)) (now (body .entry)) (now (buffer .entry))) ⌝ }
+    ensures { λ r. ⌜ WritesC header (now (comp .entry)) (now (map .entry)) (now (body .entry)) (now (buffer .entry)) r (now (buffer .exit)) ⌝ }
 {
     capi::write::write_c(buffer, header, comp, map, body)
 }
 
 #[no_mangle]
 pub extern "C" fn featherloom_decimal_text(buffer: &mut [u8], decimal: i64) -> CWritten
-    ensures { λ r. ⌜ (r ≡ shownLaid (laidAnswer (amountText decimal) (now (buffer .entry)))) × (now (buffer .exit) ≡ laid (amountText decimal) (now (buffer .entry))) ⌝ }
+    ensures { λ r. ⌜ SpellsC decimal (now (buffer .entry)) r (now (buffer .exit)) ⌝ }
 {
     capi::write::decimal_text_c(buffer, decimal)
 }
@@ -145,14 +146,14 @@ pub extern "C" fn featherloom_steps_flat(
     rows: &mut [u32],
     sends: &mut [u32],
 ) -> CDone
-    ensures { λ r. ⌜ (r ≡ stepsC session (now (bytes .entry)) (length (now (rows .entry))) (length (now (sends .entry)))) × (now (rows .exit) ≡ rowsC session (now (bytes .entry)) (now (rows .entry)) (now (sends .entry))) × (now (sends .exit) ≡ sendsC session (now (bytes .entry)) (now (rows .entry)) (now (sends .entry))) ⌝ }
+    ensures { λ r. ⌜ TakesC session (now (bytes .entry)) (now (rows .entry)) (now (sends .entry)) r (now (rows .exit)) (now (sends .exit)) ⌝ }
 {
     capi::sessions::steps_c(session, bytes, rows, sends)
 }
 
 #[no_mangle]
 pub extern "C" fn featherloom_put(buffer: &mut [u8], session: CSession, send: CSend) -> CWritten
-    ensures { λ r. ⌜ (r ≡ sendC session send (now (buffer .entry))) × (now (buffer .exit) ≡ sentC session send (now (buffer .entry))) ⌝ }
+    ensures { λ r. ⌜ SendsC session send (now (buffer .entry)) r (now (buffer .exit)) ⌝ }
 {
     capi::sessions::send_c(buffer, session, send)
 }
@@ -161,13 +162,11 @@ pub extern "C" fn featherloom_put(buffer: &mut [u8], session: CSession, send: CS
 pub extern "C" fn featherloom_put_logon(
     buffer: &mut [u8],
     session: CSession,
-    number: u32,
     password: &[u8],
-    next: u32,
 ) -> CWritten
-    ensures { λ r. ⌜ (r ≡ logonC session number (now (password .entry)) next (now (buffer .entry))) × (now (buffer .exit) ≡ logonSentC session number (now (password .entry)) next (now (buffer .entry))) ⌝ }
+    ensures { λ r. ⌜ LogsOnC session (now (password .entry)) (now (buffer .entry)) r (now (buffer .exit)) ⌝ }
 {
-    capi::sessions::logon_c(buffer, session, number, password, next)
+    capi::sessions::logon_c(buffer, session, password)
 }
 
 #[no_mangle]
@@ -177,7 +176,7 @@ pub extern "C" fn featherloom_plan(
     end: u32,
     numbers: &mut [u32],
 ) -> CPlanned
-    ensures { λ r. ⌜ (r ≡ shownPlanned (planOf (now (list .entry)) start end (now (numbers .entry)))) × (now (numbers .exit) ≡ planned (now (list .entry)) start end (now (numbers .entry))) ⌝ }
+    ensures { λ r. ⌜ PlansC (now (list .entry)) start end (now (numbers .entry)) r (now (numbers .exit)) ⌝ }
 {
     capi::planning::plan_c(list, start, end, numbers)
 }

@@ -13,7 +13,7 @@ use Rattle.wire.specs.Laying.{besides, laid, laidAnswer}
 use Rattle.wire.specs.Number.{numberBytes}
 use Rattle.wire.specs.Text.{takes, fixedBytes, fixedLaid}
 use Rattle.wire.proofs.NumberLaws.{length-numberBytes}
-use Rattle.fields.proofs.WalkLaws.{rest-of}
+use Rattle.wire.proofs.TestLaws.{rest-of}
 
 module _ (e d : List ℕ) (h : length e ≤ length d) where
   pub laid-there : laid e d ≡ e ++ drop (length e) d

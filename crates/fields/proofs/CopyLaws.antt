@@ -8,9 +8,9 @@ use lib.Seq.{length-take-le}
 use Rattle.wire.specs.declared.laying.Laid.{Laid}
 use Rattle.wire.specs.declared.laying.Laid.the-variants.{Wrote}
 use Rattle.wire.specs.Laying.{laid, laidAnswer}
-use Rattle.wire.specs.Number.{number, numberBytes}
+use Rattle.wire.specs.Number.{Bytes, number, numberBytes}
 use Rattle.wire.proofs.LayingLaws.{laid-yes}
-use Rattle.wire.proofs.NumberLaws.{Bytes, bytes-take, numberBytes-number}
+use Rattle.wire.proofs.NumberLaws.{bytes-take, numberBytes-number}
 
 -- equal bytes are laid alike
 pub laid-as : (x y d e : List ℕ) (r : Laid) → x ≡ y → (r ≡ laidAnswer x d) × (e ≡ laid x d) → (r ≡ laidAnswer y d) × (e ≡ laid y d)

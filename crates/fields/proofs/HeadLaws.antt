@@ -11,8 +11,8 @@ use lib.ListN.{length, getD}
 use lib.Pow.{pow-pos, pow-add, mod-pow-add, ones-split, ones-lt, high, low}
 use borrow.Author.Tests.{eqb-true, eqb-false, le-leb, lt-leb}
 use Rattle.wire.specs.Map.{bitAt, present}
-use Rattle.wire.proofs.MapLaws.{present-at}
-use Rattle.wire.proofs.NumberLaws.{Bytes}
+use Rattle.wire.proofs.MapLaws.{present-at, with-place}
+use Rattle.wire.specs.Number.{Bytes}
 use Rattle.fields.specs.Words.{ClearFrom}
 use Rattle.fields.specs.Cut.{positions, wordOf, headOf}
 use Rattle.fields.proofs.PositionLaws.{later, later-set, later-clear, later-end, later-none, positions-split}
@@ -58,11 +58,6 @@ module _ (m : List ℕ) where
       positions-split m 64 192 0 ∙ ap (λ (ps : List ℕ). positions m 64 0 ++ ps) (later-none m 64 (omega arith) h) ∙ append-nil (positions m 64 0)
 
 -- one bit more of a number
-with-place : (b n d : ℕ) → b / 2 ^ n % 2 ≡ d → b % 2 ^ suc n ≡ d * 2 ^ n + b % 2 ^ n
-with-place b n d e =
-    let s : 1 + n ≡ suc n = omega arith in
-    rw s at (mod-pow-add b 1 n) ∙ ap (λ (x : ℕ). x * 2 ^ n + b % 2 ^ n) e
-
 -- byte i of a map in the number
 module _ (m : List ℕ) (i : ℕ) where
   byte-step : (t : Bool) (n : ℕ) (ps : List ℕ) → i < 8 → n < 8 → bitAt (getD m i 0) (7 - n) ≡ t

@@ -122,11 +122,11 @@ module _ (rows : ℕ → Row) (m : List ℕ) where
       (first-none (unknownAt rows m) (none-up-to (unknownAt rows m) (i * 8) 256 h (λ k l v. unknown-clear k (present-beyond m i u k l))))
 
 -- a loop over the positions of a type's span, none at or past which passes
-module _ (test : ℕ → Bool) (kind : ℕ) (beyond : (k : ℕ) → spanOf kind ≤ k → test k ≡ false) where
-  pub span-hit : (p : ℕ) → p < spanOf kind → test p ≡ true → NoneBelow test p → firstFrom test 256 0 ≡ p
-  span-hit p l e h = first-at test p (omega (arith, span-within kind)) h e
+module _ (test : ℕ → Bool) (messagetype : ℕ) (beyond : (k : ℕ) → spanOf messagetype ≤ k → test k ≡ false) where
+  pub span-hit : (p : ℕ) → p < spanOf messagetype → test p ≡ true → NoneBelow test p → firstFrom test 256 0 ≡ p
+  span-hit p l e h = first-at test p (omega (arith, span-within messagetype)) h e
 
-  pub span-end : (p : ℕ) → spanOf kind ≤ p → NoneBelow test p → firstFrom test 256 0 ≡ 256
+  pub span-end : (p : ℕ) → spanOf messagetype ≤ p → NoneBelow test p → firstFrom test 256 0 ≡ 256
   span-end p l h = first-none test (none-up-to test p 256 h (λ k u v. beyond k (omega arith)))
 
 -- the required positions
@@ -140,34 +140,34 @@ module _ (rows : ℕ → Row) (m : List ℕ) where
   missing-required p h = rw h
 
 -- of a message type
-module _ (kind : ℕ) (m : List ℕ) where
-  missing-beyond : (p : ℕ) → spanOf kind ≤ p → missingAt (rowOf kind) m p ≡ false
-  missing-beyond p h = missing-optional (rowOf kind) m p (beyond-required kind p h)
+module _ (messagetype : ℕ) (m : List ℕ) where
+  missing-beyond : (p : ℕ) → spanOf messagetype ≤ p → missingAt (rowOf messagetype) m p ≡ false
+  missing-beyond p h = missing-optional (rowOf messagetype) m p (beyond-required messagetype p h)
 
-  pub missing-hit : (p : ℕ) → p < spanOf kind → missingAt (rowOf kind) m p ≡ true → NoneBelow (missingAt (rowOf kind) m) p → At p ≡ lowestMissing (rowOf kind) m
+  pub missing-hit : (p : ℕ) → p < spanOf messagetype → missingAt (rowOf messagetype) m p ≡ true → NoneBelow (missingAt (rowOf messagetype) m) p → At p ≡ lowestMissing (rowOf messagetype) m
   unfolding lowestMissing
   missing-hit p l e h =
-      place-at (missingAt (rowOf kind) m) p (omega (arith, span-within kind)) (span-hit (missingAt (rowOf kind) m) kind missing-beyond p l e h)
+      place-at (missingAt (rowOf messagetype) m) p (omega (arith, span-within messagetype)) (span-hit (missingAt (rowOf messagetype) m) messagetype missing-beyond p l e h)
 
-  pub missing-end : (p : ℕ) → spanOf kind ≤ p → NoneBelow (missingAt (rowOf kind) m) p → Nowhere ≡ lowestMissing (rowOf kind) m
+  pub missing-end : (p : ℕ) → spanOf messagetype ≤ p → NoneBelow (missingAt (rowOf messagetype) m) p → Nowhere ≡ lowestMissing (rowOf messagetype) m
   unfolding lowestMissing
-  missing-end p l h = place-none (missingAt (rowOf kind) m) (span-end (missingAt (rowOf kind) m) kind missing-beyond p l h)
+  missing-end p l h = place-none (missingAt (rowOf messagetype) m) (span-end (missingAt (rowOf messagetype) m) messagetype missing-beyond p l h)
 
 -- a field's position
-module _ (kind : ℕ) (f : Field) where
-  pub stands-beyond : (p : ℕ) → spanOf kind ≤ p → standsAt (rowOf kind) f p ≡ false
+module _ (messagetype : ℕ) (f : Field) where
+  pub stands-beyond : (p : ℕ) → spanOf messagetype ≤ p → standsAt (rowOf messagetype) f p ≡ false
   unfolding standsAt isRowOf
-  stands-beyond p h = beyond-none (isRowOf f) refl refl kind p h
+  stands-beyond p h = beyond-none (isRowOf f) refl refl messagetype p h
 
-  pub position-hit : (p : ℕ) → p < spanOf kind → standsAt (rowOf kind) f p ≡ true → NoneBelow (standsAt (rowOf kind) f) p → p ≡ positionOf (rowOf kind) f
+  pub position-hit : (p : ℕ) → p < spanOf messagetype → standsAt (rowOf messagetype) f p ≡ true → NoneBelow (standsAt (rowOf messagetype) f) p → p ≡ positionOf (rowOf messagetype) f
   unfolding positionOf
-  position-hit p l e h = sym (span-hit (standsAt (rowOf kind) f) kind stands-beyond p l e h)
+  position-hit p l e h = sym (span-hit (standsAt (rowOf messagetype) f) messagetype stands-beyond p l e h)
 
-  pub position-end : (p : ℕ) → spanOf kind ≤ p → NoneBelow (standsAt (rowOf kind) f) p → 256 ≡ positionOf (rowOf kind) f
+  pub position-end : (p : ℕ) → spanOf messagetype ≤ p → NoneBelow (standsAt (rowOf messagetype) f) p → 256 ≡ positionOf (rowOf messagetype) f
   unfolding positionOf
-  position-end p l h = sym (span-end (standsAt (rowOf kind) f) kind stands-beyond p l h)
+  position-end p l h = sym (span-end (standsAt (rowOf messagetype) f) messagetype stands-beyond p l h)
 
   -- where the field has a position it stands there
-  pub position-stands : positionOf (rowOf kind) f < 256 → standsAt (rowOf kind) f (positionOf (rowOf kind) f) ≡ true
+  pub position-stands : positionOf (rowOf messagetype) f < 256 → standsAt (rowOf messagetype) f (positionOf (rowOf messagetype) f) ≡ true
   unfolding positionOf
-  position-stands l = first-found (standsAt (rowOf kind) f) 256 0 (omega arith)
+  position-stands l = first-found (standsAt (rowOf messagetype) f) 256 0 (omega arith)

@@ -134,22 +134,22 @@ shape-fixed UnknownPosition s w h = fixed-other (sym h)
 shape-fixed UnknownType s w h = fixed-other (sym h)
 
 -- a shape that was worked out is that of the row
-pub shape-at : (kind p : ℕ) (x : Shape) → shapeAt kind p ≡ x → (x ≡ Other → ⊥) → shapeOf (rowOf kind p) ≡ x
+pub shape-at : (messagetype p : ℕ) (x : Shape) → shapeAt messagetype p ≡ x → (x ≡ Other → ⊥) → shapeOf (rowOf messagetype p) ≡ x
 unfolding shapeAt
-shape-at kind p x h n = go (eqb kind 10) refl h
+shape-at messagetype p x h n = go (eqb messagetype 10) refl h
   where
-    go : (b : Bool) → eqb kind 10 ≡ b → cond b (shapeOf (rowOf 10 p)) Other ≡ x → shapeOf (rowOf kind p) ≡ x
-    go true e g = ap (λ (k : ℕ). shapeOf (rowOf k p)) (eqb-true kind 10 e) ∙ g
+    go : (b : Bool) → eqb messagetype 10 ≡ b → cond b (shapeOf (rowOf 10 p)) Other ≡ x → shapeOf (rowOf messagetype p) ≡ x
+    go true e g = ap (λ (k : ℕ). shapeOf (rowOf k p)) (eqb-true messagetype 10 e) ∙ g
     go false e g = absurd (n (sym g))
 
 -- so that each of the three tells of the field at position p
-module _ (kind p : ℕ) (s : List ℕ) where
-  pub at-number : (w : ℕ) → shapeAt kind p ≡ Number w → Told (rowOf kind p) s (whole w s) w (take w s) (numberValue w s)
-  at-number w h = shape-number (rowOf kind p) s w (shape-at kind p (Number w) h number-other)
+module _ (messagetype p : ℕ) (s : List ℕ) where
+  pub at-number : (w : ℕ) → shapeAt messagetype p ≡ Number w → Told (rowOf messagetype p) s (whole w s) w (take w s) (numberValue w s)
+  at-number w h = shape-number (rowOf messagetype p) s w (shape-at messagetype p (Number w) h number-other)
 
-  pub at-decimal : shapeAt kind p ≡ Decimal → Told (rowOf kind p) s (whole 8 s) 8 (take 8 s) (decimalValue s)
-  at-decimal h = shape-decimal (rowOf kind p) s (shape-at kind p Decimal h decimal-other)
+  pub at-decimal : shapeAt messagetype p ≡ Decimal → Told (rowOf messagetype p) s (whole 8 s) 8 (take 8 s) (decimalValue s)
+  at-decimal h = shape-decimal (rowOf messagetype p) s (shape-at messagetype p Decimal h decimal-other)
 
-  pub at-fixed : (w : ℕ) → shapeAt kind p ≡ Fixed w
-      → Told (rowOf kind p) s (fixed w s) w (fixedBytes w (fixedPart w s)) (textValue (fixedText w s))
-  at-fixed w h = shape-fixed (rowOf kind p) s w (shape-at kind p (Fixed w) h fixed-other)
+  pub at-fixed : (w : ℕ) → shapeAt messagetype p ≡ Fixed w
+      → Told (rowOf messagetype p) s (fixed w s) w (fixedBytes w (fixedPart w s)) (textValue (fixedText w s))
+  at-fixed w h = shape-fixed (rowOf messagetype p) s w (shape-at messagetype p (Fixed w) h fixed-other)

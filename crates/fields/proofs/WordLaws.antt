@@ -14,8 +14,8 @@ use lib.ListN.{length, getD, take, drop}
 use lib.Pow.{field, mod-mod-pow, shr-shr}
 use lib.Seq.{getD-take, getD-drop}
 use Rattle.wire.specs.Map.{bitAt, present}
-use Rattle.wire.specs.Number.{number}
-use Rattle.wire.proofs.NumberLaws.{Bytes, bytes-take, bytes-drop}
+use Rattle.wire.specs.Number.{Bytes, number}
+use Rattle.wire.proofs.NumberLaws.{bytes-take, bytes-drop}
 use Rattle.wire.proofs.MapLaws.{no-bit}
 use Rattle.fields.specs.Words.{place, Holds, ClearFrom}
 

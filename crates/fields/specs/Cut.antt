@@ -6,11 +6,10 @@ use mathlib.Core.List.{List, [], _∷_, foldr}
 use lib.Dec.{eqb, leb}
 use lib.ListN.{length, take, drop}
 use Rattle.tables.specs.declared.dictionary.Sort.{Sort}
-use Rattle.tables.specs.declared.dictionary.Sort.the-variants.{Number, Decimal, Byte, YesNo, Fixed, Variable}
 use Rattle.tables.specs.declared.table.Row.{Row}
-use Rattle.tables.specs.declared.table.Row.the-variants.{Required, Optional, UnknownPosition, UnknownType}
-use Rattle.tables.specs.Dictionary.{sortOf}
-use Rattle.wire.specs.Map.{present}
+use Rattle.tables.specs.Dictionary.{bySort, sortOf}
+use Rattle.tables.specs.Line.{byField}
+use Rattle.wire.specs.Map.{mapPositions, present}
 use Rattle.wire.specs.Number.{number}
 
 -- the set positions of a map among the n from p on, rising
@@ -20,19 +19,11 @@ positions m (suc n) p = cond (present m p) (p ∷ positions m n (suc p)) (positi
 
 -- how many bytes a field takes: its width, and a variable text its two bytes of length and as many as they say
 unfoldable pub extent : Sort → List ℕ → ℕ
-extent (Number width) s = width
-extent Decimal s = 8
-extent Byte s = 1
-extent YesNo s = 1
-extent (Fixed width) s = width
-extent (Variable size) s = 2 + number (take 2 s)
+extent sort s = bySort (λ w. w) (λ w. w) (λ w. 2 + number (take 2 s)) sort
 
 -- the field that a row names, at the front of s; none takes none
 unfoldable pub extentOf : Row → List ℕ → ℕ
-extentOf (Required f) s = extent (sortOf f) s
-extentOf (Optional f) s = extent (sortOf f) s
-extentOf UnknownPosition s = 0
-extentOf UnknownType s = 0
+extentOf r s = byField (λ f. extent (sortOf f) s) 0 r
 
 -- a field of a body: its position, and the bytes from it on
 pub record Piece : Type 0 where
@@ -46,17 +37,21 @@ cutAt rows (p ∷ ps) s = record { position = p; bytes = s } ∷ cutAt rows ps (
 
 -- a body with this map
 unfoldable pub cut : (ℕ → Row) → List ℕ → List ℕ → List Piece
-cut rows m body = cutAt rows (positions m 256 0) body
+cut rows m body = cutAt rows (positions m mapPositions 0) body
 
 -- the bytes from the field at position p on; none where there is no such field
 unfoldable pub bytesAt : ℕ → List Piece → List ℕ
 bytesAt p = foldr (λ (x : Piece) (rest : List ℕ). cond (eqb (x .position) p) (x .bytes) rest) []
 
--- rising positions below 64 as one number, the first position in the highest bit
+-- a map's head: so many positions, which one number of eight bytes holds
+abbrev pub headPositions : ℕ
+headPositions = 64
+
+-- rising positions of a head as one number, the first position in the highest bit
 unfoldable pub wordOf : List ℕ → ℕ
 wordOf [] = 0
 wordOf (p ∷ ps) = 2 ^ (63 - p) + wordOf ps
 
--- the set positions below 64 of a map that has eight bytes or more
+-- the head of a map that has eight bytes or more
 unfoldable pub headOf : List ℕ → ℕ
-headOf m = cond (leb 8 (length m)) (wordOf (positions m 64 0)) 0
+headOf m = cond (leb 8 (length m)) (wordOf (positions m headPositions 0)) 0

@@ -5,9 +5,10 @@ use lib.Dec.{eqb}
 use Rattle.tables.specs.declared.dictionary.Sort.{Sort}
 use Rattle.tables.specs.declared.dictionary.Sort.the-variants as sort
 use Rattle.tables.specs.declared.table.Row.{Row}
-use Rattle.tables.specs.declared.table.Row.the-variants.{Required, Optional, UnknownPosition, UnknownType}
 use Rattle.tables.specs.Dictionary.{sortOf}
+use Rattle.tables.specs.Line.{byField}
 use Rattle.tables.specs.Tables.{rowOf}
+use Rattle.tables.specs.Types.{executionReportType}
 use Rattle.fields.specs.declared.check.Shape.{Shape}
 use Rattle.fields.specs.declared.check.Shape.the-variants.{Number, Decimal, Fixed, Other}
 
@@ -22,11 +23,8 @@ shapeIn (sort.Variable size) = Other
 
 -- the field that a row names
 unfoldable pub shapeOf : Row → Shape
-shapeOf (Required f) = shapeIn (sortOf f)
-shapeOf (Optional f) = shapeIn (sortOf f)
-shapeOf UnknownPosition = Other
-shapeOf UnknownType = Other
+shapeOf r = byField (λ f. shapeIn (sortOf f)) Other r
 
 -- position p of a message of this type, where it is a report
 unfoldable pub shapeAt : ℕ → ℕ → Shape
-shapeAt kind p = cond (eqb kind 10) (shapeOf (rowOf 10 p)) Other
+shapeAt messagetype p = cond (eqb messagetype executionReportType) (shapeOf (rowOf executionReportType p)) Other

@@ -1,6 +1,9 @@
 // One field at the front of lent bytes, checked by its sort.
+use tables::dictionary::NO;
 use tables::dictionary::Sort;
+use tables::dictionary::YES;
 use tables::dictionary::sort_of;
+use tables::table::EXECUTION_REPORT;
 use tables::table::Row;
 use tables::table::row_of;
 use wire::text::Text;
@@ -8,6 +11,7 @@ use wire::text::fixed_text;
 use wire::text::variable_text;
 ghost use mathlib.Core.Path.{_≡_};
 ghost use Rattle.tables.specs.Tables.{rowOf};
+ghost use Rattle.tables.specs.Types.{executionReportType};
 ghost use Rattle.fields.specs.Check.{whole, yesNo, fixed, variable, checkSort, checkRow};
 ghost use Rattle.fields.specs.Shapes.{shapeOf, shapeAt};
 
@@ -43,8 +47,8 @@ fn check_yes_no(s: &[u8]) -> Checked
     }
     let b = s[0];
     match b {
-        b'Y' => Checked::Good { taken: 1, plain: 1 },
-        b'N' => Checked::Good { taken: 1, plain: 1 },
+        YES => Checked::Good { taken: 1, plain: 1 },
+        NO => Checked::Good { taken: 1, plain: 1 },
         _ => Checked::Bad(Reason::Field),
     }
 }
@@ -78,7 +82,7 @@ fn check_variable(s: &[u8], size: usize) -> Checked
 }
 
 // A field of this sort at the front of s.
-pub fn check_sort(sort: Sort, s: &[u8]) -> Checked
+fn check_sort(sort: Sort, s: &[u8]) -> Checked
     ensures { λ r. ⌜ r ≡ checkSort sort (now (s .entry)) ⌝ }
 {
     match sort {
@@ -92,10 +96,10 @@ pub fn check_sort(sort: Sort, s: &[u8]) -> Checked
 }
 
 // The field that stands at position p in a message of this type, by its name and the dictionary.
-pub(crate) fn check_row(kind: u8, p: usize, s: &[u8]) -> Checked
-    ensures { λ r. ⌜ r ≡ checkRow (rowOf kind p) (now (s .entry)) ⌝ }
+pub(crate) fn check_row(messagetype: u8, p: usize, s: &[u8]) -> Checked
+    ensures { λ r. ⌜ r ≡ checkRow (rowOf messagetype p) (now (s .entry)) ⌝ }
 {
-    match row_of(kind, p) {
+    match row_of(messagetype, p) {
         Row::Required(field) => check_sort(sort_of(field), s),
         Row::Optional(field) => check_sort(sort_of(field), s),
         Row::UnknownPosition => Checked::Bad(Reason::Field),
@@ -105,15 +109,15 @@ pub(crate) fn check_row(kind: u8, p: usize, s: &[u8]) -> Checked
 
 // The same, each in a frame of its own: what is lent is then stored only where this way is taken.
 fn check_other(p: usize, s: &[u8]) -> Checked
-    ensures { λ r. ⌜ r ≡ checkRow (rowOf 10 p) (now (s .entry)) ⌝ }
+    ensures { λ r. ⌜ r ≡ checkRow (rowOf executionReportType p) (now (s .entry)) ⌝ }
 {
-    check_row(10, p, s)
+    check_row(EXECUTION_REPORT, p, s)
 }
 
-fn check_named(kind: u8, p: usize, s: &[u8]) -> Checked
-    ensures { λ r. ⌜ r ≡ checkRow (rowOf kind p) (now (s .entry)) ⌝ }
+fn check_named(messagetype: u8, p: usize, s: &[u8]) -> Checked
+    ensures { λ r. ⌜ r ≡ checkRow (rowOf messagetype p) (now (s .entry)) ⌝ }
 {
-    check_row(kind, p, s)
+    check_row(messagetype, p, s)
 }
 
 // What a quick look at a field needs to know: a number of so many bytes, a Decimal, or a fixed text of so many. Every other
@@ -127,7 +131,7 @@ pub enum Shape {
 
 // The shape of each position of an Execution Report in one step.
 fn report_shape(p: usize) -> Shape
-    ensures { λ r. ⌜ r ≡ shapeOf (rowOf 10 p) ⌝ }
+    ensures { λ r. ⌜ r ≡ shapeOf (rowOf executionReportType p) ⌝ }
 {
     match p {
         0 => Shape::Fixed(21),
@@ -171,17 +175,17 @@ fn report_shape(p: usize) -> Shape
 }
 
 // The shape of a report's field; that of another message's is not worked out, as most messages of a day are reports.
-pub fn shape_at(kind: u8, p: usize) -> Shape
-    ensures { λ r. ⌜ r ≡ shapeAt kind p ⌝ }
+pub fn shape_at(messagetype: u8, p: usize) -> Shape
+    ensures { λ r. ⌜ r ≡ shapeAt messagetype p ⌝ }
 {
-    if kind == 10 {
+    if messagetype == EXECUTION_REPORT {
         return report_shape(p);
     }
     Shape::Other
 }
 
 fn check_report(p: usize, s: &[u8]) -> Checked
-    ensures { λ r. ⌜ r ≡ checkRow (rowOf 10 p) (now (s .entry)) ⌝ }
+    ensures { λ r. ⌜ r ≡ checkRow (rowOf executionReportType p) (now (s .entry)) ⌝ }
 {
     match report_shape(p) {
         Shape::Number(width) => check_whole(s, width),
@@ -193,11 +197,11 @@ fn check_report(p: usize, s: &[u8]) -> Checked
 
 // The field that stands at position p in a message of this type, at the front of s. A position that the type does
 // not know holds no good field.
-pub fn check_at(kind: u8, p: usize, s: &[u8]) -> Checked
-    ensures { λ r. ⌜ r ≡ checkRow (rowOf kind p) (now (s .entry)) ⌝ }
+pub(crate) fn check_at(messagetype: u8, p: usize, s: &[u8]) -> Checked
+    ensures { λ r. ⌜ r ≡ checkRow (rowOf messagetype p) (now (s .entry)) ⌝ }
 {
-    if kind == 10 {
+    if messagetype == EXECUTION_REPORT {
         return check_report(p, s);
     }
-    check_named(kind, p, s)
+    check_named(messagetype, p, s)
 }

@@ -6,6 +6,7 @@ use tables::dictionary::Sort;
 use tables::dictionary::sort_of;
 use tables::table::Row;
 use tables::table::row_of;
+use wire::map::MAP_POSITIONS;
 use wire::map::is_present;
 use wire::number::read_u16;
 ghost use mathlib.Core.Path.{_≡_};
@@ -29,10 +30,10 @@ fn extent_of(sort: Sort, s: &[u8]) -> usize
 }
 
 // The field at position p of a message of this type, by its name and the dictionary.
-fn extent_row(kind: u8, p: usize, s: &[u8]) -> usize
-    ensures { λ r. ⌜ r ≡ extentOf (rowOf kind p) (now (s .entry)) ⌝ }
+fn extent_row(messagetype: u8, p: usize, s: &[u8]) -> usize
+    ensures { λ r. ⌜ r ≡ extentOf (rowOf messagetype p) (now (s .entry)) ⌝ }
 {
-    match row_of(kind, p) {
+    match row_of(messagetype, p) {
         Row::Required(field) => extent_of(sort_of(field), s),
         Row::Optional(field) => extent_of(sort_of(field), s),
         Row::UnknownPosition => 0,
@@ -41,21 +42,21 @@ fn extent_row(kind: u8, p: usize, s: &[u8]) -> usize
 }
 
 // The same, in a frame of its own: what is lent is then stored only where this way is taken.
-fn extent_other(kind: u8, p: usize, s: &[u8]) -> usize
-    ensures { λ r. ⌜ r ≡ extentOf (rowOf kind p) (now (s .entry)) ⌝ }
+fn extent_other(messagetype: u8, p: usize, s: &[u8]) -> usize
+    ensures { λ r. ⌜ r ≡ extentOf (rowOf messagetype p) (now (s .entry)) ⌝ }
 {
-    extent_row(kind, p, s)
+    extent_row(messagetype, p, s)
 }
 
 // How many bytes the field at position p takes at the front of s, checked or not.
-pub fn extent_at(kind: u8, p: usize, s: &[u8]) -> usize
-    ensures { λ r. ⌜ r ≡ extentOf (rowOf kind p) (now (s .entry)) ⌝ }
+pub fn extent_at(messagetype: u8, p: usize, s: &[u8]) -> usize
+    ensures { λ r. ⌜ r ≡ extentOf (rowOf messagetype p) (now (s .entry)) ⌝ }
 {
-    match shape_at(kind, p) {
+    match shape_at(messagetype, p) {
         Shape::Number(width) => width,
         Shape::Decimal => 8,
         Shape::Fixed(width) => width,
-        Shape::Other => extent_other(kind, p, s),
+        Shape::Other => extent_other(messagetype, p, s),
     }
 }
 
@@ -70,10 +71,10 @@ pub fn behind(s: &[u8], n: usize) -> &[u8]
 }
 
 // The bytes of a body from the field at position p on; none where the map has the position clear.
-pub fn bytes_at<'a>(kind: u8, map: &[u8], body: &'a [u8], p: usize) -> &'a [u8]
-    ensures { λ r. ⌜ now r ≡ bytesAt p (cut (rowOf kind) (now (map .entry)) (now (body .entry))) ⌝ }
+pub fn bytes_at<'a>(messagetype: u8, map: &[u8], body: &'a [u8], p: usize) -> &'a [u8]
+    ensures { λ r. ⌜ now r ≡ bytesAt p (cut (rowOf messagetype) (now (map .entry)) (now (body .entry))) ⌝ }
 {
-    if 256 <= p {
+    if MAP_POSITIONS <= p {
         return &body[..0];
     }
     if !is_present(map, p) {
@@ -83,7 +84,7 @@ pub fn bytes_at<'a>(kind: u8, map: &[u8], body: &'a [u8], p: usize) -> &'a [u8]
     let mut q: usize = 0;
     while q < p {
         if is_present(map, q) {
-            let next = behind(rest, extent_at(kind, q, rest));
+            let next = behind(rest, extent_at(messagetype, q, rest));
             rest = next;
         }
         q += 1;

@@ -12,12 +12,12 @@ use wire::text::copy_variable;
 ghost use mathlib.Core.Path.{_≡_};
 ghost use lib.ListN.{take};
 ghost use Rattle.tables.specs.Tables.{rowOf};
-ghost use Rattle.wire.specs.Laying.{laid, laidAnswer};
+ghost use Rattle.wire.specs.Laying.{Lays};
 ghost use Rattle.fields.specs.Plain.{plainSort, plainRow};
 
 // The first `width` bytes of s; all where it has no more.
 fn copy_front(d: &mut [u8], width: usize, s: &[u8]) -> Laid
-    ensures { λ r. ⌜ (r ≡ laidAnswer (take width (now (s .entry))) (now (d .entry))) × (now (d .exit) ≡ laid (take width (now (s .entry))) (now (d .entry))) ⌝ }
+    ensures { λ r. ⌜ Lays (take width (now (s .entry))) (now (d .entry)) r (now (d .exit)) ⌝ }
 {
     if s.len() < width {
         return put_bytes(d, s);
@@ -27,7 +27,7 @@ fn copy_front(d: &mut [u8], width: usize, s: &[u8]) -> Laid
 
 // A field of this sort at the front of s, in plain form.
 fn copy_sort(d: &mut [u8], sort: Sort, s: &[u8]) -> Laid
-    ensures { λ r. ⌜ (r ≡ laidAnswer (plainSort sort (now (s .entry))) (now (d .entry))) × (now (d .exit) ≡ laid (plainSort sort (now (s .entry))) (now (d .entry))) ⌝ }
+    ensures { λ r. ⌜ Lays (plainSort sort (now (s .entry))) (now (d .entry)) r (now (d .exit)) ⌝ }
 {
     match sort {
         Sort::Number(width) => copy_front(d, width, s),
@@ -40,10 +40,10 @@ fn copy_sort(d: &mut [u8], sort: Sort, s: &[u8]) -> Laid
 }
 
 // The field at position p of a message of this type, by its name and the dictionary; nothing where no row names one.
-fn copy_row(d: &mut [u8], kind: u8, p: usize, s: &[u8]) -> Laid
-    ensures { λ r. ⌜ (r ≡ laidAnswer (plainRow (rowOf kind p) (now (s .entry))) (now (d .entry))) × (now (d .exit) ≡ laid (plainRow (rowOf kind p) (now (s .entry))) (now (d .entry))) ⌝ }
+fn copy_row(d: &mut [u8], messagetype: u8, p: usize, s: &[u8]) -> Laid
+    ensures { λ r. ⌜ Lays (plainRow (rowOf messagetype p) (now (s .entry))) (now (d .entry)) r (now (d .exit)) ⌝ }
 {
-    match row_of(kind, p) {
+    match row_of(messagetype, p) {
         Row::Required(field) => copy_sort(d, sort_of(field), s),
         Row::Optional(field) => copy_sort(d, sort_of(field), s),
         Row::UnknownPosition => Laid::Wrote(0),
@@ -53,7 +53,7 @@ fn copy_row(d: &mut [u8], kind: u8, p: usize, s: &[u8]) -> Laid
 
 // A number of so many bytes at the front of s, most often of one; all of s where it has no more.
 pub fn copy_number(d: &mut [u8], width: usize, s: &[u8]) -> Laid
-    ensures { λ r. ⌜ (r ≡ laidAnswer (take width (now (s .entry))) (now (d .entry))) × (now (d .exit) ≡ laid (take width (now (s .entry))) (now (d .entry))) ⌝ }
+    ensures { λ r. ⌜ Lays (take width (now (s .entry))) (now (d .entry)) r (now (d .exit)) ⌝ }
 {
     if width == 1 && 1 <= s.len() && 1 <= d.len() {
         d[0] = s[0];
@@ -64,7 +64,7 @@ pub fn copy_number(d: &mut [u8], width: usize, s: &[u8]) -> Laid
 
 // A Decimal at the front of s; all of s where it has no more.
 pub fn copy_decimal(d: &mut [u8], s: &[u8]) -> Laid
-    ensures { λ r. ⌜ (r ≡ laidAnswer (take 8 (now (s .entry))) (now (d .entry))) × (now (d .exit) ≡ laid (take 8 (now (s .entry))) (now (d .entry))) ⌝ }
+    ensures { λ r. ⌜ Lays (take 8 (now (s .entry))) (now (d .entry)) r (now (d .exit)) ⌝ }
 {
     if s.len() < 8 {
         return copy_front(d, 8, s);
@@ -73,8 +73,8 @@ pub fn copy_decimal(d: &mut [u8], s: &[u8]) -> Laid
 }
 
 // The field at position p of a message of this type, by its name and the dictionary, in a frame of its own.
-pub fn copy_other(d: &mut [u8], kind: u8, p: usize, s: &[u8]) -> Laid
-    ensures { λ r. ⌜ (r ≡ laidAnswer (plainRow (rowOf kind p) (now (s .entry))) (now (d .entry))) × (now (d .exit) ≡ laid (plainRow (rowOf kind p) (now (s .entry))) (now (d .entry))) ⌝ }
+pub fn copy_other(d: &mut [u8], messagetype: u8, p: usize, s: &[u8]) -> Laid
+    ensures { λ r. ⌜ Lays (plainRow (rowOf messagetype p) (now (s .entry))) (now (d .entry)) r (now (d .exit)) ⌝ }
 {
-    copy_row(d, kind, p, s)
+    copy_row(d, messagetype, p, s)
 }

@@ -1,9 +1,12 @@
-// Prints the layout sheet from the proved tables: a line for each position of each message type.
+// Prints the layout sheet from the proved tables: a line for each position of each message type, and then for each position of
+// each of the nine tables of an Execution Report.
 use libc::STDOUT_FILENO;
 use names::put_name;
 use tables::dictionary::Field;
 use tables::dictionary::Sort;
 use tables::dictionary::sort_of;
+use tables::nine::nine_row;
+use tables::table::EXECUTION_REPORT;
 use tables::table::Row;
 use tables::table::row_of;
 use tables::table::span_of;
@@ -37,9 +40,7 @@ fn say_sort(sort: Sort) {
     }
 }
 
-fn say_line(kind: u8, position: usize, field: Field, required: bool) {
-    say(b"type=");
-    say_number(kind as usize);
+fn say_line(position: usize, field: Field, required: bool) {
     say(b" position=");
     say_number(position);
     say(b" name=");
@@ -57,28 +58,69 @@ fn say_line(kind: u8, position: usize, field: Field, required: bool) {
     }
 }
 
-fn say_row(kind: u8, position: usize) {
-    match row_of(kind, position) {
-        Row::Required(field) => say_line(kind, position, field, true),
-        Row::Optional(field) => say_line(kind, position, field, false),
+// A line, where the row has one: `front` is its first word, and `number` stands behind it.
+fn say_at(front: &[u8], number: u8, position: usize, row: Row) {
+    if row.is_known() {
+        say(front);
+        say_number(number as usize);
+    }
+    match row {
+        Row::Required(field) => say_line(position, field, true),
+        Row::Optional(field) => say_line(position, field, false),
         Row::UnknownPosition => {}
         Row::UnknownType => {}
     }
 }
 
-fn say_type(kind: u8) {
-    let span = span_of(kind);
+fn say_row(messagetype: u8, position: usize) {
+    say_at(
+        b"type=",
+        messagetype,
+        position,
+        row_of(messagetype, position),
+    );
+}
+
+fn say_type(messagetype: u8) {
+    let span = span_of(messagetype);
     let mut position = 0;
     while position < span {
-        say_row(kind, position);
+        say_row(messagetype, position);
         position += 1;
     }
 }
 
-fn main() {
-    let mut kind: u8 = 0;
-    while kind <= 10 {
-        say_type(kind);
-        kind += 1;
+// The table of 004 section 7.8.k, k being `table`.
+fn say_table_row(table: u8, position: usize) {
+    say_at(b"table=7.8.", table, position, nine_row(table, position));
+}
+
+fn say_table(table: u8) {
+    let span = span_of(EXECUTION_REPORT);
+    let mut position = 0;
+    while position < span {
+        say_table_row(table, position);
+        position += 1;
     }
+}
+
+fn say_types() {
+    let mut messagetype: u8 = 0;
+    while messagetype <= EXECUTION_REPORT {
+        say_type(messagetype);
+        messagetype += 1;
+    }
+}
+
+fn say_tables() {
+    let mut table: u8 = 1;
+    while table <= 9 {
+        say_table(table);
+        table += 1;
+    }
+}
+
+fn main() {
+    say_types();
+    say_tables();
 }

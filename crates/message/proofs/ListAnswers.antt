@@ -51,26 +51,26 @@ module _ (rows : ℕ → Row) (w : ℕ) (m : List ℕ) (f g : ℕ → List ℕ) 
 -- of a message that is read
 module _ (s : List ℕ) (h : Header) (n : ℕ) (e : readOf s ≡ read.Good h n) where
   here : ℕ → List ℕ
-  here p = bytesAt p (cut (rowOf (h .kind)) (mapIn s) (bodyIn n s))
+  here p = bytesAt p (cut (rowOf (h .messagetype)) (mapIn s) (bodyIn n s))
 
   five-here : (p : ℕ) → p < 256 → present (mapIn s) p ≡ true
-      → five p (startBy p s (readOf s)) (extentOf (rowOf (h .kind) p) (here p)) (valueAt (rowOf (h .kind)) (mapIn s) (bodyIn n s) p)
-      ≡ fiveOf (rowOf (h .kind) p) n p (here p)
+      → five p (startBy p s (readOf s)) (extentOf (rowOf (h .messagetype) p) (here p)) (valueAt (rowOf (h .messagetype)) (mapIn s) (bodyIn n s) p)
+      ≡ fiveOf (rowOf (h .messagetype) p) n p (here p)
   unfolding fiveOf startBy valueAt valueIn here
   five-here p l t = rw (e, t)
 
   -- all its set positions, each with the value that a question finds, and where it begins
   pub list-answers : listBy s (readOf s)
-      ≡ foldr (λ (p : ℕ) (rest : List ℕ). five p (startBy p s (readOf s)) (extentOf (rowOf (h .kind) p) (bytesAt p (cut (rowOf (h .kind)) (mapIn s) (bodyIn n s)))) (valueAt (rowOf (h .kind)) (mapIn s) (bodyIn n s) p) ++ rest) [] (positions (mapIn s) 256 0)
+      ≡ foldr (λ (p : ℕ) (rest : List ℕ). five p (startBy p s (readOf s)) (extentOf (rowOf (h .messagetype) p) (bytesAt p (cut (rowOf (h .messagetype)) (mapIn s) (bodyIn n s)))) (valueAt (rowOf (h .messagetype)) (mapIn s) (bodyIn n s) p) ++ rest) [] (positions (mapIn s) 256 0)
   unfolding listBy cut here each-at
   list-answers =
-      ap (listBy s) e ∙ by-positions (rowOf (h .kind)) n (mapIn s) here _ five-here 256 0 (bodyIn n s) (omega arith) (λ p u. refl)
+      ap (listBy s) e ∙ by-positions (rowOf (h .messagetype)) n (mapIn s) here _ five-here 256 0 (bodyIn n s) (omega arith) (λ p u. refl)
 
   -- and the questions' answers are that value's
-  pub number-answers : (p : ℕ) → askNumber s p ≡ numberAnswer p (valueAt (rowOf (h .kind)) (mapIn s) (bodyIn n s) p)
+  pub number-answers : (p : ℕ) → askNumber s p ≡ numberAnswer p (valueAt (rowOf (h .messagetype)) (mapIn s) (bodyIn n s) p)
   unfolding askNumber asked
   number-answers p = rw e
 
-  pub text-answers : (p : ℕ) → askText s p ≡ textAnswer p (valueAt (rowOf (h .kind)) (mapIn s) (bodyIn n s) p)
+  pub text-answers : (p : ℕ) → askText s p ≡ textAnswer p (valueAt (rowOf (h .messagetype)) (mapIn s) (bodyIn n s) p)
   unfolding askText asked
   text-answers p = rw e

@@ -11,6 +11,8 @@ use lib.IntN.{ℤ}
 use lib.ListN.{length, take, drop, length-append, length-drop}
 use lib.Seq.{length-take-le}
 use borrow.Author.Tests.{leb-true, le-leb, lt-leb}
+use mir.Syntax.{w64}
+use mir.Val.{Fits}
 use Rattle.tables.specs.declared.dictionary.Sort.{Sort}
 use Rattle.tables.specs.declared.dictionary.Sort.the-variants as sort
 use Rattle.tables.specs.declared.table.Row.{Row}
@@ -22,10 +24,10 @@ use Rattle.wire.specs.declared.text.Text.the-variants as text
 use Rattle.wire.specs.Decimal.{unsigned, decimal}
 use Rattle.wire.specs.Laying.{laid}
 use Rattle.wire.specs.Map.{present}
-use Rattle.wire.specs.Number.{number}
+use Rattle.wire.specs.Number.{Bytes, number}
 use Rattle.wire.specs.Text.{characters, fixedText}
 use Rattle.wire.proofs.DecimalLaws.{unsigned-signed}
-use Rattle.wire.proofs.NumberLaws.{Bytes, number-take}
+use Rattle.wire.proofs.NumberLaws.{number-take}
 use Rattle.wire.proofs.TextLaws.{characters-null, fixed-good}
 use Rattle.fields.specs.declared.check.Checked.the-variants as checked
 use Rattle.fields.specs.declared.check.Shape.{Shape}
@@ -34,7 +36,7 @@ use Rattle.fields.specs.declared.value.Value.{Value}
 use Rattle.fields.specs.declared.value.Value.the-variants as value
 use Rattle.fields.specs.declared.walk.Walked.the-variants.{Done}
 use Rattle.fields.specs.Check.{checkRow}
-use Rattle.fields.specs.Cut.{positions, extentOf, Piece, cutAt, cut, headOf}
+use Rattle.fields.specs.Cut.{headPositions, positions, extentOf, Piece, cutAt, cut, headOf}
 use Rattle.fields.specs.Shapes.{shapeIn, shapeOf, shapeAt}
 use Rattle.fields.specs.Value.{numberValue, decimalValue, textValue, sortValue, fieldValue, rowValue, valueIn}
 use Rattle.fields.proofs.BufferLaws.{lentFrom}
@@ -44,7 +46,8 @@ use Rattle.fields.proofs.HeadLaws.{Ahead, Found, ahead-start, ahead-first, posi
 use Rattle.fields.proofs.PositionLaws.{later}
 use Rattle.fields.proofs.ShapeLaws.{shape-at, at-number, at-decimal, at-fixed}
 use Rattle.fields.proofs.ValueLaws.{sortValue-there, names-value, not-bad, number-value, decimal-value}
-use Rattle.fields.proofs.WalkLaws.{rest-of, walkFrom, First, walk-first, walk-whole}
+use Rattle.wire.proofs.TestLaws.{rest-of}
+use Rattle.fields.proofs.WalkLaws.{walkFrom, First, walk-first, walk-whole}
 use Rattle.message.specs.Ask.{leadOf, rowLead, textStart}
 use Rattle.message.specs.declared.frame.Header.{Header}
 use Rattle.message.specs.declared.list.Listed.the-variants.{Good, Refused}
@@ -56,7 +59,12 @@ use Rattle.message.specs.Read.{readOf}
 use Rattle.message.specs.List.{five, fiveOf, listOf, listBy, listedBy, listFields}
 use Rattle.message.proofs.FrameLaws.{part-there, part-within}
 use Rattle.message.proofs.ReadLaws.{read-front, good-fields}
-use Rattle.message.proofs.VetLaws.{GoodFields, good-low}
+use Rattle.message.specs.Good.{GoodFields}
+use Rattle.message.proofs.VetLaws.{good-low}
+
+-- a position of a head, and how many there are, fit a word
+pub fits : (n : ℕ) → n ≤ headPositions → Fits w64 n
+fits n h = omega arith
 
 -- a good field has no bad value
 pub good-value : (row : Row) (s : List ℕ) (taken plain : ℕ) → checkRow row s ≡ checked.Good taken plain → rowValue row true s ≡ value.Bad → ⊥
@@ -190,40 +198,40 @@ decimal-is e = let y : _≡_ {A = ℕ} 0 1 = cc in omega arith
 fixed-is : (w : ℕ) → Fixed w ≡ Other → ⊥
 fixed-is w e = let y : _≡_ {A = ℕ} 0 1 = cc in omega arith
 
-module _ (kind p whole : ℕ) (s : List ℕ) (good : rowValue (rowOf kind p) true s ≡ value.Bad → ⊥) where
-  starts : (x : Shape) → shapeAt kind p ≡ x → (x ≡ Other → ⊥) → whole - 4 - length s ≡ textStart (rowOf kind p) whole (length s)
-  starts x e h = quick-start (rowOf kind p) whole s (λ q. h (sym (shape-at kind p x e h) ∙ q))
+module _ (messagetype p whole : ℕ) (s : List ℕ) (good : rowValue (rowOf messagetype p) true s ≡ value.Bad → ⊥) where
+  starts : (x : Shape) → shapeAt messagetype p ≡ x → (x ≡ Other → ⊥) → whole - 4 - length s ≡ textStart (rowOf messagetype p) whole (length s)
+  starts x e h = quick-start (rowOf messagetype p) whole s (λ q. h (sym (shape-at messagetype p x e h) ∙ q))
 
-  module _ (w : ℕ) (e : shapeAt kind p ≡ Number w) where
+  module _ (w : ℕ) (e : shapeAt messagetype p ≡ Number w) where
     pub quick-number-room : w ≤ length s
-    quick-number-room = number-room w s (λ b. good (at-number kind p s w e .value ∙ b))
+    quick-number-room = number-room w s (λ b. good (at-number messagetype p s w e .value ∙ b))
 
     pub quick-number : (n : ℕ) (d y : List ℕ) → n ≡ number (take 8 (take w s)) → y ≡ laid (p ∷ 1 ∷ (whole - 4 - length s) ∷ w ∷ n ∷ []) d
-        → (w ≡ extentOf (rowOf kind p) s) × (y ≡ laid (fiveOf (rowOf kind p) whole p s) d)
+        → (w ≡ extentOf (rowOf messagetype p) s) × (y ≡ laid (fiveOf (rowOf messagetype p) whole p s) d)
     unfolding five
     quick-number n d y q l =
-        let t = at-number kind p s w e in
-        told-laid (rowOf kind p) whole p _ w s d _ y _ (starts (Number w) e (number-is w)) (sym (t .taken))
+        let t = at-number messagetype p s w e in
+        told-laid (rowOf messagetype p) whole p _ w s d _ y _ (starts (Number w) e (number-is w)) (sym (t .taken))
         (t .value ∙ number-value w s quick-number-room ∙ ap value.Number (sym q)) refl l
 
-  module _ (e : shapeAt kind p ≡ Decimal) where
+  module _ (e : shapeAt messagetype p ≡ Decimal) where
     pub quick-decimal : (n : ℕ) (d y : List ℕ) → Bytes s → n ≡ number (take 8 s) → y ≡ laid (p ∷ 2 ∷ (whole - 4 - length s) ∷ 8 ∷ n ∷ []) d
-        → (_≡_ {A = ℕ} 8 (extentOf (rowOf kind p) s)) × (y ≡ laid (fiveOf (rowOf kind p) whole p s) d)
+        → (_≡_ {A = ℕ} 8 (extentOf (rowOf messagetype p) s)) × (y ≡ laid (fiveOf (rowOf messagetype p) whole p s) d)
     quick-decimal n d y b q l =
-        let t = at-decimal kind p s e in
-        decimal-laid (rowOf kind p) whole p _ 8 n s d y _ (starts Decimal e decimal-is) (sym (t .taken))
+        let t = at-decimal messagetype p s e in
+        decimal-laid (rowOf messagetype p) whole p _ 8 n s d y _ (starts Decimal e decimal-is) (sym (t .taken))
         (t .value ∙ decimal-value s (decimal-room s (λ b. good (t .value ∙ b)))) b q l
 
-  module _ (w : ℕ) (e : shapeAt kind p ≡ Fixed w) where
+  module _ (w : ℕ) (e : shapeAt messagetype p ≡ Fixed w) where
     pub quick-fixed-room : w ≤ length s
-    quick-fixed-room = text-counted w s (λ b. good (at-fixed kind p s w e .value ∙ b)) .room
+    quick-fixed-room = text-counted w s (λ b. good (at-fixed messagetype p s w e .value ∙ b)) .room
 
     pub quick-fixed : (n : ℕ) (d y : List ℕ) → n ≡ characters (take w s) → y ≡ laid (p ∷ 3 ∷ (whole - 4 - length s) ∷ n ∷ 0 ∷ []) d
-        → (w ≡ extentOf (rowOf kind p) s) × (y ≡ laid (fiveOf (rowOf kind p) whole p s) d)
+        → (w ≡ extentOf (rowOf messagetype p) s) × (y ≡ laid (fiveOf (rowOf messagetype p) whole p s) d)
     unfolding five
     quick-fixed n d y q l =
-        let t = at-fixed kind p s w e in
-        told-laid (rowOf kind p) whole p _ w s d _ y _ (starts (Fixed w) e (fixed-is w)) (sym (t .taken))
+        let t = at-fixed messagetype p s w e in
+        told-laid (rowOf messagetype p) whole p _ w s d _ y _ (starts (Fixed w) e (fixed-is w)) (sym (t .taken))
         (t .value ∙ text-counted w s (λ b. good (t .value ∙ b)) .is ∙ ap value.Text (sym q)) refl l
 
 -- a list has five numbers for each field
@@ -253,40 +261,40 @@ list-length rows n (p ∷ ps) s =
     ∙ omega (arith, field-length (rows p) n p s, list-length rows n ps rest)
 
 -- a loop that lays the fields of a good message: what is laid, and that the rest is good
-pub record Listing (kind whole : ℕ) (m body d₀ d : List ℕ) (at left : ℕ) (rest : List ℕ) : Type 0 where
-  pub filled : Filled (rowOf kind) m (listOf (rowOf kind) whole) d₀ (listOf (rowOf kind) whole (cut (rowOf kind) m body)) d at left rest
+pub record Listing (messagetype whole : ℕ) (m body d₀ d : List ℕ) (at left : ℕ) (rest : List ℕ) : Type 0 where
+  pub filled : Filled (rowOf messagetype) m (listOf (rowOf messagetype) whole) d₀ (listOf (rowOf messagetype) whole (cut (rowOf messagetype) m body)) d at left rest
   pub from : ℕ
   pub ahead : Ahead m from left
   pub sum : ℕ
   pub plain : ℕ
-  pub walked : walkFrom (rowOf kind) (later m 64 from) sum rest ≡ Done 0 plain
+  pub walked : walkFrom (rowOf messagetype) (later m 64 from) sum rest ≡ Done 0 plain
   pub within : length rest ≤ length body
 
-module _ (kind whole : ℕ) (m body d : List ℕ) (left plain : ℕ) where
-  pub listing-start : left ≡ headOf m → 8 ≤ length m → GoodFields kind m body plain
-      → length (listOf (rowOf kind) whole (cut (rowOf kind) m body)) ≤ length d → Listing kind whole m body d d 0 left body
+module _ (messagetype whole : ℕ) (m body d : List ℕ) (left plain : ℕ) where
+  pub listing-start : left ≡ headOf m → 8 ≤ length m → GoodFields messagetype m body plain
+      → length (listOf (rowOf messagetype) whole (cut (rowOf messagetype) m body)) ≤ length d → Listing messagetype whole m body d d 0 left body
   listing-start e l g h =
-      let low = good-low kind m body plain g in
+      let low = good-low messagetype m body plain g in
       record {
-        filled = fill-start (rowOf kind) m (listOf (rowOf kind) whole) body d left e l low h;
+        filled = fill-start (rowOf messagetype) m (listOf (rowOf messagetype) whole) body d left e l low h;
         from = 0;
         ahead = ahead-start m left e l;
         sum = 0;
         plain = plain;
         walked =
-            ap (λ (ps : List ℕ). walkFrom (rowOf kind) ps 0 body) (sym (positions-low m low)) ∙ walk-whole (rowOf kind) m body ∙ g .walked;
+            ap (λ (ps : List ℕ). walkFrom (rowOf messagetype) ps 0 body) (sym (positions-low m low)) ∙ walk-whole (rowOf messagetype) m body ∙ g .walked;
         within = omega arith;
       }
 
-module _ {kind whole : ℕ} {m body d₀ d : List ℕ} {at left : ℕ} {rest : List ℕ} (i : Listing kind whole m body d₀ d at left rest) where
+module _ {messagetype whole : ℕ} {m body d₀ d : List ℕ} {at left : ℕ} {rest : List ℕ} (i : Listing messagetype whole m body d₀ d at left rest) where
   module _ (h : left ≡ 0 → ⊥) where
     found : Found m (i .from) left (leadingZeros 64 left)
     found = ahead-first m left (i .from) (i .ahead) h
 
-    first : First (rowOf kind) 0 (i .plain) (leadingZeros 64 left) (later m 64 (leadingZeros 64 left + 1)) (i .sum) rest
+    first : First (rowOf messagetype) 0 (i .plain) (leadingZeros 64 left) (later m 64 (leadingZeros 64 left + 1)) (i .sum) rest
     first =
-        walk-first (rowOf kind) 0 (i .plain) (leadingZeros 64 left) (later m 64 (leadingZeros 64 left + 1)) (i .sum) rest
-        (ap (λ (ps : List ℕ). walkFrom (rowOf kind) ps (i .sum) rest) (sym (found .first)) ∙ i .walked)
+        walk-first (rowOf messagetype) 0 (i .plain) (leadingZeros 64 left) (later m 64 (leadingZeros 64 left + 1)) (i .sum) rest
+        (ap (λ (ps : List ℕ). walkFrom (rowOf messagetype) ps (i .sum) rest) (sym (found .first)) ∙ i .walked)
 
     pub listing-below : leadingZeros 64 left < 64
     listing-below = found .below
@@ -294,36 +302,36 @@ module _ {kind whole : ℕ} {m body d₀ d : List ℕ} {at left : ℕ} {rest : L
     pub listing-set : present m (leadingZeros 64 left) ≡ true
     listing-set = found .set
 
-    pub listing-good : rowValue (rowOf kind (leadingZeros 64 left)) true rest ≡ value.Bad → ⊥
-    listing-good = good-value (rowOf kind (leadingZeros 64 left)) rest (first .taken) (first .plain-length) (first .good)
+    pub listing-good : rowValue (rowOf messagetype (leadingZeros 64 left)) true rest ≡ value.Bad → ⊥
+    listing-good = good-value (rowOf messagetype (leadingZeros 64 left)) rest (first .taken) (first .plain-length) (first .good)
 
-    pub listing-room : extentOf (rowOf kind (leadingZeros 64 left)) rest ≤ length rest
+    pub listing-room : extentOf (rowOf messagetype (leadingZeros 64 left)) rest ≤ length rest
     listing-room = omega (arith, first .width, first .room)
 
     pub listing-fits : at + 5 ≤ length d₀
     listing-fits =
         omega (
           arith,
-          fill-fits (i .filled) (each-field (rowOf kind) whole) h (fiveOf (rowOf kind (leadingZeros 64 left)) whole (leadingZeros 64 left) rest) refl,
-          field-length (rowOf kind (leadingZeros 64 left)) whole (leadingZeros 64 left) rest,
+          fill-fits (i .filled) (each-field (rowOf messagetype) whole) h (fiveOf (rowOf messagetype (leadingZeros 64 left)) whole (leadingZeros 64 left) rest) refl,
+          field-length (rowOf messagetype (leadingZeros 64 left)) whole (leadingZeros 64 left) rest,
         )
 
     pub listing-on : (y : List ℕ) (taken : ℕ) (next : List ℕ)
-        → y ≡ laid (fiveOf (rowOf kind (leadingZeros 64 left)) whole (leadingZeros 64 left) rest) (take (length d - at) (drop at d))
-        → taken ≡ extentOf (rowOf kind (leadingZeros 64 left)) rest → next ≡ drop taken rest
+        → y ≡ laid (fiveOf (rowOf messagetype (leadingZeros 64 left)) whole (leadingZeros 64 left) rest) (take (length d - at) (drop at d))
+        → taken ≡ extentOf (rowOf messagetype (leadingZeros 64 left)) rest → next ≡ drop taken rest
         → (bitAnd left (9223372036854775807 / 2 ^ leadingZeros 64 left) < left)
-        × Listing kind whole m body d₀ (lentFrom at d y) (at + 5) (bitAnd left (9223372036854775807 / 2 ^ leadingZeros 64 left)) next
+        × Listing messagetype whole m body d₀ (lentFrom at d y) (at + 5) (bitAnd left (9223372036854775807 / 2 ^ leadingZeros 64 left)) next
     listing-on y taken next q t r =
         let e : next ≡ drop (first .taken) rest = r ∙ ap (λ (k : ℕ). drop k rest) (t ∙ first .width) in (
           found .less,
           record {
             filled =
-                fill-on (i .filled) (each-field (rowOf kind) whole) h _ refl y 5 taken next (sym (field-length _ whole _ rest)) q t r;
+                fill-on (i .filled) (each-field (rowOf messagetype) whole) h _ refl y 5 taken next (sym (field-length _ whole _ rest)) q t r;
             from = leadingZeros 64 left + 1;
             ahead = found .on;
             sum = i .sum + first .plain-length;
             plain = i .plain;
-            walked = ap (walkFrom (rowOf kind) (later m 64 (leadingZeros 64 left + 1)) (i .sum + first .plain-length)) e ∙ first .on;
+            walked = ap (walkFrom (rowOf messagetype) (later m 64 (leadingZeros 64 left + 1)) (i .sum + first .plain-length)) e ∙ first .on;
             within = omega (arith, ap length e, length-drop (first .taken) rest, i .within);
           },
         )
@@ -332,8 +340,8 @@ module _ {kind whole : ℕ} {m body d₀ d : List ℕ} {at left : ℕ} {rest : L
     pub listing-part : 5 ≤ length (take (length d - at) (drop at d))
     listing-part = rw (rest-of d at, length-drop) (omega (arith, listing-fits, fill-same (i .filled)))
 
-  pub listing-end : left ≡ 0 → (at ≡ length (listOf (rowOf kind) whole (cut (rowOf kind) m body))) × (d ≡ laid (listOf (rowOf kind) whole (cut (rowOf kind) m body)) d₀)
-  listing-end e = fill-end (i .filled) (each-field (rowOf kind) whole) e
+  pub listing-end : left ≡ 0 → (at ≡ length (listOf (rowOf messagetype) whole (cut (rowOf messagetype) m body))) × (d ≡ laid (listOf (rowOf messagetype) whole (cut (rowOf messagetype) m body)) d₀)
+  listing-end e = fill-end (i .filled) (each-field (rowOf messagetype) whole) e
 
   pub listing-same : length d ≡ length d₀
   listing-same = fill-same (i .filled)
@@ -343,11 +351,11 @@ module _ {kind whole : ℕ} {m body d₀ d : List ℕ} {at left : ℕ} {rest : L
 
 -- a message that was read: its map, its body, and what the list says of it
 pub record Entered (s : List ℕ) (h : Header) (whole : ℕ) (m body : List ℕ) : Type 0 where
-  pub is : listBy s (readOf s) ≡ listOf (rowOf (h .kind)) whole (cut (rowOf (h .kind)) m body)
+  pub is : listBy s (readOf s) ≡ listOf (rowOf (h .messagetype)) whole (cut (rowOf (h .messagetype)) m body)
   pub map-size : 8 ≤ length m
   pub body-size : length body + 4 ≤ whole
   pub plain : ℕ
-  pub good : GoodFields (h .kind) m body plain
+  pub good : GoodFields (h .messagetype) m body plain
 
 pub enter : (s : List ℕ) (h : Header) (whole : ℕ) → readOf s ≡ read.Good h whole → Entered s h whole (mapIn s) (bodyIn whole s)
 unfolding listBy mapIn bodyIn
@@ -370,8 +378,8 @@ module _ (s d : List ℕ) (h : Header) (whole : ℕ) (e : readOf s ≡ read.Good
   list-need =
       let x = enter s h whole e in
       let m = mapIn s in
-      ap length (x .is) ∙ list-length (rowOf (h .kind)) whole (positions m 256 0) (bodyIn whole s)
-      ∙ ap (λ (ps : List ℕ). 5 * length ps) (positions-low m (good-low (h .kind) m (bodyIn whole s) (x .plain) (x .good)))
+      ap length (x .is) ∙ list-length (rowOf (h .messagetype)) whole (positions m 256 0) (bodyIn whole s)
+      ∙ ap (λ (ps : List ℕ). 5 * length ps) (positions-low m (good-low (h .messagetype) m (bodyIn whole s) (x .plain) (x .good)))
 
   -- no message has more than 64 fields
   pub list-most : length (listBy s (readOf s)) ≤ 320

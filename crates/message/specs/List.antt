@@ -1,4 +1,4 @@
--- All fields of a message at once: five numbers for each set position, rising, which say what the questions answer there.
+-- All fields of a message at once: `aField` numbers for each set position, rising, which say what the questions answer there.
 use Prim.Native.Nat.{ℕ, _/_}
 use mathlib.Core.Bool.{true, cond}
 use mathlib.Core.List.{List, [], _∷_, _++_, foldr}
@@ -20,6 +20,9 @@ use Rattle.message.specs.Frame.{mapIn, bodyIn}
 use Rattle.message.specs.Read.{readOf}
 use Rattle.message.specs.Ask.{textStart}
 
+abbrev pub aField : ℕ
+aField = 5
+
 -- position; sort (1 a number, 2 a Decimal, 3 a text); where it begins; its bytes, or a text's characters; its value, a Decimal's as 64 bits. No field
 -- of a good message has sort 0
 unfoldable pub five : ℕ → ℕ → ℕ → Value → List ℕ
@@ -39,12 +42,12 @@ listOf rows n = foldr (λ (x : Piece) (rest : List ℕ). fiveOf (rows (x .positi
 
 -- the list of what was read, none on a refusal
 unfoldable pub listBy : List ℕ → Reading → List ℕ
-listBy s (read.Good h n) = listOf (rowOf (h .kind)) n (cut (rowOf (h .kind)) (mapIn s) (bodyIn n s))
+listBy s (read.Good h n) = listOf (rowOf (h .messagetype)) n (cut (rowOf (h .messagetype)) (mapIn s) (bodyIn n s))
 listBy s (read.Refused r) = []
 
 -- the answer, where so many numbers have room
 unfoldable pub listedBy : ℕ → ℕ → Reading → Listed
-listedBy need room (read.Good h n) = cond (leb need room) (Good h n (need / 5)) (Refused (NoRoom need))
+listedBy need room (read.Good h n) = cond (leb need room) (Good h n (need / aField)) (Refused (NoRoom need))
 listedBy need room (read.Refused r) = Refused r
 
 unfoldable pub listFields : List ℕ → List ℕ → Listed

@@ -2,6 +2,7 @@
 // numbers for each field into a lent list.
 use crate::ask::text_start;
 use crate::frame::Header;
+use crate::frame::SUM_BYTES;
 use crate::frame::body_in;
 use crate::frame::map_in;
 use crate::read::Reading;
@@ -16,6 +17,7 @@ use fields::value::Value;
 use fields::value::value_in;
 use wire::number::read_eight;
 use wire::number::read_u64;
+use wire::number::wide;
 use wire::text::characters_in;
 ghost use mathlib.Core.Path.{_≡_};
 ghost use Prim.Native.Nat.{_+_, _≤_};
@@ -26,27 +28,25 @@ ghost use Rattle.tables.specs.Tables.{rowOf};
 ghost use Rattle.wire.specs.Number.{number};
 ghost use Rattle.wire.specs.Laying.{laid};
 ghost use Rattle.wire.specs.Map.{present};
-ghost use Rattle.fields.specs.Cut.{positions, extentOf};
+ghost use Rattle.fields.specs.Cut.{headPositions, positions, extentOf};
 ghost use Rattle.fields.specs.declared.value.Value.the-variants.{Bad};
 ghost use Rattle.fields.specs.Value.{rowValue};
 ghost use Rattle.message.specs.declared.read.Reading.the-variants.{Good};
+ghost use Rattle.message.specs.Frame.{sumBytes};
 ghost use Rattle.message.specs.Read.{readOf};
-ghost use Rattle.message.specs.List.{fiveOf, listBy, listFields};
+ghost use Rattle.message.specs.List.{aField, fiveOf, listBy, listFields};
 
 // How many numbers a field takes, and what the list calls a number, a Decimal and a text.
-const A_FIELD: usize = 5;
+pub const A_FIELD: usize = 5;
 
-const NUMBER: u64 = 1;
+pub const NUMBER: u64 = 1;
 
-const DECIMAL: u64 = 2;
+pub const DECIMAL: u64 = 2;
 
-const TEXT: u64 = 3;
+pub const TEXT: u64 = 3;
 
 // No type knows a position from 64 on, so no message has more fields.
 const MOST: usize = 64;
-
-// The checksum's bytes, which stand behind the body.
-const CHECKSUM: usize = 4;
 
 // A good message's header values, its length and how many fields it has, or the refusal.
 pub enum Listed {
@@ -60,7 +60,7 @@ pub enum Listed {
 
 // The five numbers of a field, over the first of d.
 fn lay_five(d: &mut [u64], p: usize, sort: u64, at: usize, count: usize, value: u64)
-    requires { ⌜ 5 ≤ length (now d) ⌝ }
+    requires { ⌜ aField ≤ length (now d) ⌝ }
     ensures { λ _. ⌜ now (d .exit) ≡ laid (p ∷ sort ∷ at ∷ count ∷ value ∷ []) (now (d .entry)) ⌝ }
 {
     d[0] = p as u64;
@@ -68,12 +68,6 @@ fn lay_five(d: &mut [u64], p: usize, sort: u64, at: usize, count: usize, value: 
     d[2] = at as u64;
     d[3] = count as u64;
     d[4] = value;
-}
-
-fn wide(b: u8) -> u64
-    ensures { λ r. ⌜ r ≡ b ⌝ }
-{
-    b as u64
 }
 
 // The number in the first `width` bytes, which most often is one byte.
@@ -89,13 +83,13 @@ fn number_in(s: &[u8], width: usize) -> u64
 
 // A field of no quick shape, at the front of s, in a message of this length: by its name and the dictionary. Gives how many bytes
 // it takes.
-fn lay_other(d: &mut [u64], kind: u8, map: &[u8], p: usize, whole: usize, s: &[u8]) -> usize
-    requires { ⌜ (5 ≤ length (now d)) × (present (now map) p ≡ true) ⌝ }
-    ensures { λ r. ⌜ (r ≡ extentOf (rowOf kind p) (now (s .entry))) × (now (d .exit) ≡ laid (fiveOf (rowOf kind p) whole p (now (s .entry))) (now (d .entry))) ⌝ }
+fn lay_other(d: &mut [u64], messagetype: u8, map: &[u8], p: usize, whole: usize, s: &[u8]) -> usize
+    requires { ⌜ (aField ≤ length (now d)) × (present (now map) p ≡ true) ⌝ }
+    ensures { λ r. ⌜ (r ≡ extentOf (rowOf messagetype p) (now (s .entry))) × (now (d .exit) ≡ laid (fiveOf (rowOf messagetype p) whole p (now (s .entry))) (now (d .entry))) ⌝ }
 {
-    let at = text_start(kind, p, whole, s.len());
-    let taken = extent_at(kind, p, s);
-    match value_in(kind, map, p, s) {
+    let at = text_start(messagetype, p, whole, s.len());
+    let taken = extent_at(messagetype, p, s);
+    match value_in(messagetype, map, p, s) {
         Value::Number(n) => lay_five(d, p, NUMBER, at, taken, n),
         Value::Decimal(_) => lay_five(d, p, DECIMAL, at, taken, read_eight(s)),
         Value::Text(n) => lay_five(d, p, TEXT, at, n, 0),
@@ -107,12 +101,12 @@ fn lay_other(d: &mut [u64], kind: u8, map: &[u8], p: usize, whole: usize, s: &[u
 }
 
 // A good field at the front of s, in a message of this length. Its bytes were checked, so none is looked at again but for its value.
-fn lay_field(d: &mut [u64], kind: u8, map: &[u8], p: usize, whole: usize, s: &[u8]) -> usize
-    requires { ⌜ (5 ≤ length (now d)) × (present (now map) p ≡ true) × (length (now s) + 4 ≤ whole) × (rowValue (rowOf kind p) true (now s) ≡ Bad → ⊥) ⌝ }
-    ensures { λ r. ⌜ (r ≡ extentOf (rowOf kind p) (now (s .entry))) × (now (d .exit) ≡ laid (fiveOf (rowOf kind p) whole p (now (s .entry))) (now (d .entry))) ⌝ }
+fn lay_field(d: &mut [u64], messagetype: u8, map: &[u8], p: usize, whole: usize, s: &[u8]) -> usize
+    requires { ⌜ (aField ≤ length (now d)) × (present (now map) p ≡ true) × (length (now s) + sumBytes ≤ whole) × (rowValue (rowOf messagetype p) true (now s) ≡ Bad → ⊥) ⌝ }
+    ensures { λ r. ⌜ (r ≡ extentOf (rowOf messagetype p) (now (s .entry))) × (now (d .exit) ≡ laid (fiveOf (rowOf messagetype p) whole p (now (s .entry))) (now (d .entry))) ⌝ }
 {
-    let at = whole - CHECKSUM - s.len();
-    match shape_at(kind, p) {
+    let at = whole - SUM_BYTES - s.len();
+    match shape_at(messagetype, p) {
         Shape::Number(width) => {
             lay_five(d, p, NUMBER, at, width, number_in(s, width));
             width
@@ -125,7 +119,7 @@ fn lay_field(d: &mut [u64], kind: u8, map: &[u8], p: usize, whole: usize, s: &[u
             lay_five(d, p, TEXT, at, characters_in(&s[..width]), 0);
             width
         }
-        Shape::Other => lay_other(d, kind, map, p, whole, s),
+        Shape::Other => lay_other(d, messagetype, map, p, whole, s),
     }
 }
 
@@ -135,14 +129,14 @@ fn lay_fields(d: &mut [u64], s: &[u8], header: Header, whole: usize) -> usize
     requires { ⌜ (readOf (now s) ≡ Good header whole) × (length (listBy (now s) (readOf (now s))) ≤ length (now d)) ⌝ }
     ensures { λ r. ⌜ (r ≡ length (listBy (now (s .entry)) (readOf (now (s .entry))))) × (now (d .exit) ≡ laid (listBy (now (s .entry)) (readOf (now (s .entry)))) (now (d .entry))) ⌝ }
 {
-    let kind = header.kind;
+    let messagetype = header.messagetype;
     let map = map_in(s);
     let mut rest = body_in(s, whole);
     let mut left = head(map);
     let mut laid: usize = 0;
     while left != 0 {
         let p = u64::leading_zeros(left) as usize;
-        let taken = lay_field(&mut d[laid..], kind, map, p, whole, rest);
+        let taken = lay_field(&mut d[laid..], messagetype, map, p, whole, rest);
         laid += A_FIELD;
         rest = &rest[taken..];
         left = left & (LATER >> p);
@@ -153,7 +147,7 @@ fn lay_fields(d: &mut [u64], s: &[u8], header: Header, whole: usize) -> usize
 // How many of a map's first 64 positions are set.
 fn count_set(map: &[u8]) -> usize
     requires { ⌜ 8 ≤ length (now map) ⌝ }
-    ensures { λ r. ⌜ r ≡ length (positions (now (map .entry)) 64 0) ⌝ }
+    ensures { λ r. ⌜ r ≡ length (positions (now (map .entry)) headPositions 0) ⌝ }
 {
     let mut left = head(map);
     let mut n: usize = 0;

@@ -1,4 +1,5 @@
 // The checks that reader and writer share, in their order: 5 to 10.
+use crate::frame::COMP_ID_BYTES;
 use crate::frame::Header;
 use crate::refusal::Refusal;
 use fields::check::Reason;
@@ -7,6 +8,7 @@ use fields::sets::lowest_missing;
 use fields::sets::lowest_unknown;
 use fields::walk::Walked;
 use fields::walk::walk;
+use tables::table::is_type;
 use wire::text::takes_text;
 ghost use mathlib.Core.Path.{_≡_};
 ghost use Prim.Native.Nat.{ℕ};
@@ -28,7 +30,7 @@ pub fn is_comp_id(comp: &[u8]) -> bool
     if comp.len() == 0 {
         return false;
     }
-    takes_text(12, comp)
+    takes_text(COMP_ID_BYTES, comp)
 }
 
 // 6, where `named` says whether the Comp ID is good.
@@ -57,16 +59,16 @@ fn bad_at(reason: Reason, p: usize) -> Vetted
 }
 
 // The map and the body of a message of a known type: 7 to 10.
-fn vet_fields(kind: u8, map: &[u8], body: &[u8]) -> Vetted
-    ensures { λ r. ⌜ r ≡ vetFields (rowOf kind) (now (map .entry)) (now (body .entry)) ⌝ }
+fn vet_fields(messagetype: u8, map: &[u8], body: &[u8]) -> Vetted
+    ensures { λ r. ⌜ r ≡ vetFields (rowOf messagetype) (now (map .entry)) (now (body .entry)) ⌝ }
 {
-    if let Place::At(unknown) = lowest_unknown(kind, map) {
+    if let Place::At(unknown) = lowest_unknown(messagetype, map) {
         return Vetted::Refused(Refusal::UnknownPosition(unknown));
     }
-    if let Place::At(missing) = lowest_missing(kind, map) {
+    if let Place::At(missing) = lowest_missing(messagetype, map) {
         return Vetted::Refused(Refusal::MissingField(missing));
     }
-    match walk(kind, map, body) {
+    match walk(messagetype, map, body) {
         Walked::Done { left, plain } => {
             if left == 0 {
                 Vetted::Good(plain)
@@ -82,14 +84,14 @@ fn vet_fields(kind: u8, map: &[u8], body: &[u8]) -> Vetted
 pub(crate) fn vet_named(header: Header, named: bool, map: &[u8], body: &[u8]) -> Vetted
     ensures { λ r. ⌜ ((comp : List ℕ) → named ≡ goodCompId comp → r ≡ vet header comp (now (map .entry)) (now (body .entry))) ⌝ }
 {
-    let kind = header.kind;
-    if 10 < kind {
+    let messagetype = header.messagetype;
+    if !is_type(messagetype) {
         return Vetted::Refused(Refusal::UnknownType);
     }
     if !is_header(header, named) {
         return Vetted::Refused(Refusal::BadHeader);
     }
-    vet_fields(kind, map, body)
+    vet_fields(messagetype, map, body)
 }
 
 pub fn vet(header: Header, comp: &[u8], map: &[u8], body: &[u8]) -> Vetted

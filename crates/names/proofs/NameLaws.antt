@@ -79,7 +79,7 @@ use Rattle.tables.specs.declared.dictionary.Field.the-variants.{
   TypeOfService,
 }
 use Rattle.names.specs.Lines.{lineLength, lineOf}
-use Rattle.tables.specs.Dictionary.{rowNumber}
+use Rattle.tables.specs.Dictionary.{entry, rowNumber}
 use Rattle.wire.specs.Spelled.{spelled}
 use Rattle.names.specs.Names.{nameOf}
 
@@ -168,7 +168,7 @@ text =
     [])
 
 pub name-stands : (f : Field) → lineOf (rowNumber f) text ≡ nameOf f
-unfolding lineLength lineOf spelled nameOf rowNumber lines text
+unfolding lineLength lineOf spelled nameOf entry rowNumber lines text
 name-stands AggressorIndicator = refl
 name-stands BrokerLocationId = refl
 name-stands BusinessRejectCode = refl

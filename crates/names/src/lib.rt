@@ -4,7 +4,7 @@ use tables::dictionary::row_number;
 use wire::laying::Laid;
 use wire::laying::put_bytes;
 ghost use mathlib.Core.Path.{_≡_};
-ghost use Rattle.wire.specs.Laying.{laid, laidAnswer};
+ghost use Rattle.wire.specs.Laying.{Lays};
 ghost use Rattle.names.specs.Lines.{lineLength, lineOf};
 ghost use Rattle.names.specs.Names.{nameOf};
 
@@ -44,7 +44,7 @@ fn line<'a>(s: &'a [u8], n: usize) -> &'a [u8]
 // A field's name at the front of a lent buffer. The names stand a line each from line 1 on, in the order of 004 section 8.2;
 // the dash of Time In Force is U+2013, three bytes in UTF-8.
 pub fn put_name(d: &mut [u8], field: Field) -> Laid
-    ensures { λ r. ⌜ (r ≡ laidAnswer (nameOf field) (now (d .entry))) × (now (d .exit) ≡ laid (nameOf field) (now (d .entry))) ⌝ }
+    ensures { λ r. ⌜ Lays (nameOf field) (now (d .entry)) r (now (d .exit)) ⌝ }
 {
     let names = b"
 Aggressor Indicator

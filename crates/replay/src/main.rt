@@ -9,15 +9,27 @@
 use libc::STDERR_FILENO;
 use libc::STDIN_FILENO;
 use libc::STDOUT_FILENO;
+use message::frame::COMP_ID_BYTES;
 use message::frame::Framed;
 use message::frame::check_frame;
 use message::frame::comp_id_in;
 use message::frame::front_length;
 use message::frame::header_in;
+use message::list::A_FIELD;
+use message::list::DECIMAL;
 use message::list::Listed;
+use message::list::NUMBER;
+use message::list::TEXT;
 use message::list::list_fields;
+use message::refusal::BAD_SUM;
+use message::refusal::SHORT;
 use message::vet::is_comp_id;
 use names::put_name;
+use session::state::Code;
+use session::state::ROW_BUSINESS;
+use session::state::ROW_FILLED;
+use session::state::ROW_RESET;
+use session::state::ROW_SESSION;
 use session::state::Row;
 use session::state::Send;
 use session::state::Session;
@@ -34,31 +46,13 @@ use tables::table::Row as Place;
 use tables::table::row_of;
 use wire::decimal::read_decimal;
 use wire::laying::put_bytes;
+use wire::text::LONGEST;
 use wire::text::fixed_part;
 use wire::text::put_fixed;
 ghost use Prim.Native.Nat.{_≤_};
 
-// How many numbers the list of a message's fields has for each of them.
-const A_FIELD: usize = 5;
-
-// The sorts of fields by the list's numbers: a number, a Decimal and a text.
-const NUMBER: u64 = 1;
-
-const DECIMAL: u64 = 2;
-
-const TEXT: u64 = 3;
-
 // Room for the numbers of 64 fields; no message has more.
-const ROOM: usize = 320;
-
-// The sorts of rows by the numbers of a call's list.
-const BUSINESS: u32 = 1;
-
-const SESSION: u32 = 2;
-
-const FILLED: u32 = 3;
-
-const RESET: u32 = 4;
+const ROOM: usize = 64 * A_FIELD;
 
 // Room for the rows of one call. A buffer can hold more messages: the next call goes on with those.
 const ROWS: usize = 256 * A_ROW;
@@ -189,14 +183,14 @@ fn say_field(
 }
 
 // The line of the field whose five numbers these are, if the type knows its position.
-fn say_five(out: &mut [u8], said: usize, kind: u8, five: &[u64], s: &[u8]) -> usize {
+fn say_five(out: &mut [u8], said: usize, messagetype: u8, five: &[u64], s: &[u8]) -> usize {
     if five.len() < A_FIELD {
         return said;
     }
     let sort = five[1];
     let value = five[4];
     let part = part_of(s, five[2] as usize, five[3] as usize);
-    match row_of(kind, five[0] as usize) {
+    match row_of(messagetype, five[0] as usize) {
         Place::Required(field) => say_field(out, said, field, sort, value, part),
         Place::Optional(field) => say_field(out, said, field, sort, value, part),
         Place::UnknownPosition => said,
@@ -208,7 +202,7 @@ fn say_five(out: &mut [u8], said: usize, kind: u8, five: &[u64], s: &[u8]) -> us
 fn say_listed(
     out: &mut [u8],
     said: usize,
-    kind: u8,
+    messagetype: u8,
     numbers: &[u64],
     fields: usize,
     s: &[u8],
@@ -217,7 +211,7 @@ fn say_listed(
     let mut rest = numbers;
     let mut left = fields;
     while left > 0 && A_FIELD <= rest.len() {
-        now = say_five(out, now, kind, rest, s);
+        now = say_five(out, now, messagetype, rest, s);
         rest = &rest[A_FIELD..];
         left -= 1;
     }
@@ -232,7 +226,7 @@ fn say_fields(out: &mut [u8], said: usize, s: &[u8]) -> usize {
             header,
             length: _,
             fields,
-        } => say_listed(out, said, header.kind, &numbers, fields, s),
+        } => say_listed(out, said, header.messagetype, &numbers, fields, s),
         Listed::Refused(_) => said,
     }
 }
@@ -267,15 +261,16 @@ fn say_account(out: &mut [u8], said: usize, row: Row) -> usize {
 }
 
 // What became of a message: a refusal that changed nothing (1 and 4), a stop, or its type, its number and its row.
-fn say_outcome(out: &mut [u8], said: usize, s: &[u8], code: u32, row: Row) -> usize {
-    if code == 1 || code == 4 {
-        return say_labelled(out, said, b" refused=", code as u64);
+fn say_outcome(out: &mut [u8], said: usize, s: &[u8], code: Code, row: Row) -> usize {
+    let k = code.number();
+    if k == SHORT || k == BAD_SUM {
+        return say_labelled(out, said, b" refused=", k as u64);
     }
-    if code != 0 {
-        return say_labelled(out, said, b" stop=", code as u64);
+    if k != 0 {
+        return say_labelled(out, said, b" stop=", k as u64);
     }
     let header = header_in(s);
-    let said = say_labelled(out, said, b" type=", header.kind as u64);
+    let said = say_labelled(out, said, b" type=", header.messagetype as u64);
     let said = say_labelled(out, said, b" number=", header.number as u64);
     say_account(out, said, row)
 }
@@ -288,8 +283,9 @@ fn say_step(out: &mut [u8], said: usize, at: u64, s: &[u8], stepped: Stepped) ->
     let first = answer.first;
     let second = answer.second;
     let said = say_labelled(out, said, b"at=", at);
-    let said = say_outcome(out, said, s, answer.code, row);
-    let said = say_labelled(out, said, b" next=", session.expected as u64);
+    let code = answer.code;
+    let said = say_outcome(out, said, s, code, row);
+    let said = say_labelled(out, said, b" next=", session.expected() as u64);
     let said = say_send(out, said, first);
     let said = say_send(out, said, second);
     say(out, said, b"\n")
@@ -310,7 +306,7 @@ fn say_business(out: &mut [u8], said: usize, s: &[u8], row: Row) -> usize {
 // after its last the next.
 fn say_taken(out: &mut [u8], said: usize, at: u64, s: &[u8], row: Row) -> usize {
     let said = say_labelled(out, said, b"at=", at);
-    let said = say_outcome(out, said, s, 0, row);
+    let said = say_outcome(out, said, s, Code::Good, row);
     let said = say_labelled(out, said, b" next=", last_of(row) as u64 + 1);
     let said = say(out, said, b"\n");
     say_business(out, said, s, row)
@@ -319,10 +315,10 @@ fn say_taken(out: &mut [u8], said: usize, at: u64, s: &[u8], row: Row) -> usize 
 // The row of this sort.
 fn row_by(sort: u32, first: u32, last: u32) -> Row {
     match sort {
-        BUSINESS => Row::Business(first),
-        SESSION => Row::Session(first),
-        FILLED => Row::Filled(first, last),
-        RESET => Row::Reset(first, last),
+        ROW_BUSINESS => Row::Business(first),
+        ROW_SESSION => Row::Session(first),
+        ROW_FILLED => Row::Filled(first, last),
+        ROW_RESET => Row::Reset(first, last),
         _ => Row::Nothing,
     }
 }
@@ -431,7 +427,7 @@ impl View {
 
     // So many bytes, a message or several, are dealt with, and the session is this.
     fn past(self, session: Session, length: usize, said: usize) -> View {
-        let state = session.state;
+        let state = session.state();
         let down = is_down(state);
         View {
             session,
@@ -530,7 +526,8 @@ fn step(view: View, buf: &[u8], out: &mut [u8]) -> View {
     let next = stepped.session;
     let said = say_step(out, view.said, view.at, s, stepped);
     let said = say_business(out, said, s, row);
-    if answer.code == 1 {
+    let code = answer.code;
+    if code.number() == SHORT {
         return view.stopped(said);
     }
     view.past(next, front_length(s), said)
@@ -554,7 +551,7 @@ fn bytes_of(numbers: &[u32], rows: usize) -> usize {
 // up it sends no Logout either: a call that ends Down is not told by its rows.
 fn is_told(done: Done, numbers: &[u32]) -> bool {
     let session = done.session;
-    let state = session.state;
+    let state = session.state();
     if is_down(state) {
         return false;
     }
@@ -593,11 +590,10 @@ fn begin(view: View, comp: &[u8], named: bool, asked: Asked, out: &mut [u8]) -> 
     let connected = down.connect(b"");
     let session = connected.session;
     let begun = view.with(session, named);
-    let code = if made.code == 0 {
-        connected.code
-    } else {
-        made.code
-    };
+    let refused = made.code;
+    let answered = connected.code;
+    let k = refused.number();
+    let code = if k == 0 { answered.number() } else { k };
     if code == 0 {
         return begun;
     }
@@ -632,7 +628,7 @@ fn turn(
     if out.len() < view.said {
         return view.stopped(view.said);
     }
-    if !view.closed && n < 4096 {
+    if !view.closed && n < LONGEST {
         return refill(view, fd, buf);
     }
     if n == 0 {
@@ -662,11 +658,11 @@ fn count_left(view: View, fd: i32, buf: &mut [u8]) -> u64 {
 // The last line: where the view ended, the session then, and how many bytes were not looked at.
 fn say_end(view: View, out: &mut [u8], left: u64) -> usize {
     let session = view.session;
-    let state = session.state;
+    let state = session.state();
     let said = say_labelled(out, view.said, b"end at=", view.at);
     let said = say_state(out, said, state);
-    let said = say_labelled(out, said, b" next=", session.expected as u64);
-    let said = say_labelled(out, said, b" own=", session.own as u64);
+    let said = say_labelled(out, said, b" next=", session.expected() as u64);
+    let said = say_labelled(out, said, b" own=", session.own() as u64);
     let said = say_labelled(out, said, b" left=", left);
     say(out, said, b"\n")
 }
@@ -693,7 +689,7 @@ fn run(
 // Before the first byte: our Comp ID, or one that stands in.
 fn connect(view: View, asked: Asked, out: &mut [u8]) -> View {
     let ours = asked.ours;
-    let comp = fixed_part(&ours, 12);
+    let comp = fixed_part(&ours, COMP_ID_BYTES);
     if is_comp_id(comp) {
         return begin(view, comp, true, asked, out);
     }

@@ -1,13 +1,16 @@
 -- A call of many messages, as the code answers it: refused, or by its turns. And what every step keeps, it keeps.
-use Prim.Native.Nat.{ℕ, zero, suc, _+_}
+use Prim.Native.Nat.{ℕ, zero, suc, _+_, _*_}
 use mathlib.Core.Path.{_≡_, refl, sym, ap, subst, _∙_}
 use mathlib.Core.Bool.{Bool, true, false, cond}
 use mathlib.Core.List.{List, []}
 use native.Mathlib.Omega.{arith}
-use lib.Dec.{eqb}
 use lib.ListN.{length, drop}
+use Rattle.message.specs.declared.refusal.Refusal.the-variants.{NoRoom}
 use Rattle.message.specs.Frame.{frontLength}
 use Rattle.wire.specs.Laying.{laid}
+use Rattle.session.specs.declared.state.Code.{Code}
+use Rattle.session.specs.declared.state.Code.the-variants as code
+use Rattle.session.specs.declared.state.Halt.the-variants as halt
 use Rattle.session.specs.declared.state.Session.{Session}
 use Rattle.session.specs.declared.state.State.{State}
 use Rattle.session.specs.declared.state.State.the-variants as state
@@ -15,7 +18,7 @@ use Rattle.session.specs.declared.steps.Done.{Done}
 use Rattle.session.specs.declared.steps.Ended.{Ended}
 use Rattle.session.specs.declared.steps.Ended.the-variants.{Down, NoSlot}
 use Rattle.session.specs.Day.{step}
-use Rattle.session.specs.Steps.{rowNumbers, sendNumbers, Did, did, joined, course, hasRoom, refusalIn, calledBy, called, reportOf, steps, rowsAfter, sendsAfter, singles}
+use Rattle.session.specs.Steps.{aRow, aSend, slotsBy, rowNumbers, sendNumbers, Did, did, joined, course, hasRoom, refusalIn, calledBy, called, reportOf, steps, rowsAfter, sendsAfter, singles}
 use Rattle.session.proofs.Effect.{either}
 use Rattle.session.proofs.GoingLaws.{same-done}
 use Rattle.session.proofs.SingleLaws.{single-steps}
@@ -27,6 +30,13 @@ waiting-up a b = let z : _≡_ {A = ℕ} 0 1 = cc in omega arith
 pub live-up : {p : State} → p ≡ state.Live → p ≡ state.Down → ⊥
 live-up a b = let z : _≡_ {A = ℕ} 0 1 = cc in omega arith
 
+-- the two refusals of a call
+abbrev pub down : Code
+down = code.Halted halt.Down
+
+abbrev pub full : Code
+full = code.Refused (NoRoom (aRow + 2 * aSend))
+
 -- the answer x, and the lists d and e, which were d₀ and e₀
 pub record Answers (s : Session) (bytes d₀ e₀ : List ℕ) (x : Done) (d e : List ℕ) : Type 0 where
   pub report : x ≡ steps s bytes (length d₀) (length e₀)
@@ -35,46 +45,46 @@ pub record Answers (s : Session) (bytes d₀ e₀ : List ℕ) (x : Done) (d e : 
 
 module _ (s : Session) (bytes d₀ e₀ : List ℕ) where
   refusal-up : (p : State) → (p ≡ state.Down → ⊥) → (b : Bool) → hasRoom (length d₀) (length e₀) ≡ b
-      → refusalIn p (length d₀) (length e₀) ≡ cond b 0 11
+      → refusalIn p (length d₀) (length e₀) ≡ cond b code.Good full
   unfolding refusalIn
   refusal-up state.Down up b h = absurd (up refl)
-  refusal-up state.Waiting up b h = ap (λ (r : Bool). cond r 0 11) h
-  refusal-up state.Live up b h = ap (λ (r : Bool). cond r 0 11) h
+  refusal-up state.Waiting up b h = ap (λ (r : Bool). cond r code.Good full) h
+  refusal-up state.Live up b h = ap (λ (r : Bool). cond r code.Good full) h
 
   -- a refusal does nothing, so that the lists are as they were
-  nothing : (k : ℕ) (x : Done) → refusalIn (s .state) (length d₀) (length e₀) ≡ k → x ≡ reportOf k (calledBy k s bytes (length d₀) (length e₀))
+  nothing : (k : Code) (x : Done) → refusalIn (s .state) (length d₀) (length e₀) ≡ k → x ≡ reportOf k (calledBy k s bytes (length d₀) (length e₀))
       → calledBy k s bytes (length d₀) (length e₀) .rows ≡ [] → calledBy k s bytes (length d₀) (length e₀) .sends ≡ [] → Answers s bytes d₀ e₀ x d₀ e₀
   unfolding steps called rowsAfter sendsAfter rowNumbers sendNumbers
   nothing k x r p a b =
       record {
-        report = p ∙ ap (λ (n : ℕ). reportOf n (calledBy n s bytes (length d₀) (length e₀))) (sym r);
-        rows = laid-none _ d₀ (ap rowNumbers (ap (λ (n : ℕ). calledBy n s bytes (length d₀) (length e₀) .rows) r ∙ a)) .1;
-        sends = laid-none _ e₀ (ap sendNumbers (ap (λ (n : ℕ). calledBy n s bytes (length d₀) (length e₀) .sends) r ∙ b)) .1;
+        report = p ∙ ap (λ (n : Code). reportOf n (calledBy n s bytes (length d₀) (length e₀))) (sym r);
+        rows = laid-none _ d₀ (ap rowNumbers (ap (λ (n : Code). calledBy n s bytes (length d₀) (length e₀) .rows) r ∙ a)) .1;
+        sends = laid-none _ e₀ (ap sendNumbers (ap (λ (n : Code). calledBy n s bytes (length d₀) (length e₀) .sends) r ∙ b)) .1;
       }
 
   module _ (x : Done) (same : x .session ≡ s) (unused : x .used ≡ 0) where
-    pub down-call : s .state ≡ state.Down → x .code ≡ 20 → x .rows ≡ 0 → x .sends ≡ 0 → x .ended ≡ Down 20 → Answers s bytes d₀ e₀ x d₀ e₀
-    unfolding refusalIn calledBy reportOf
+    pub down-call : s .state ≡ state.Down → x .code ≡ down → x .rows ≡ 0 → x .sends ≡ 0 → x .ended ≡ Down down → Answers s bytes d₀ e₀ x d₀ e₀
+    unfolding refusalIn calledBy reportOf slotsBy
     down-call h c r q w =
-        nothing 20 x (ap (λ (p : State). refusalIn p (length d₀) (length e₀)) h)
-        (same-done x (reportOf 20 (did s (Down 20))) same c unused r q w) refl refl
+        nothing down x (ap (λ (p : State). refusalIn p (length d₀) (length e₀)) h)
+        (same-done x (reportOf down (did s (Down down))) same c unused r q w) refl refl
 
-    pub full-call : (s .state ≡ state.Down → ⊥) → hasRoom (length d₀) (length e₀) ≡ false → x .code ≡ 11 → x .rows ≡ 1 → x .sends ≡ 2
+    pub full-call : (s .state ≡ state.Down → ⊥) → hasRoom (length d₀) (length e₀) ≡ false → x .code ≡ full → x .rows ≡ 1 → x .sends ≡ 2
         → x .ended ≡ NoSlot → Answers s bytes d₀ e₀ x d₀ e₀
-    unfolding calledBy reportOf
+    unfolding calledBy reportOf slotsBy
     full-call up h c r q w =
-        nothing 11 x (refusal-up (s .state) up false h) (same-done x (reportOf 11 (did s NoSlot)) same c unused r q w) refl refl
+        nothing full x (refusal-up (s .state) up false h) (same-done x (reportOf full (did s NoSlot)) same c unused r q w) refl refl
 
   pub run-call : (x : Done) (d e : List ℕ) → (s .state ≡ state.Down → ⊥) → hasRoom (length d₀) (length e₀) ≡ true
-      → x ≡ reportOf 0 (course 0 (length d₀) (length e₀) s bytes) → d ≡ laid (rowNumbers (course 0 (length d₀) (length e₀) s bytes .rows)) d₀
+      → x ≡ reportOf code.Good (course 0 (length d₀) (length e₀) s bytes) → d ≡ laid (rowNumbers (course 0 (length d₀) (length e₀) s bytes .rows)) d₀
       → e ≡ laid (sendNumbers (course 0 (length d₀) (length e₀) s bytes .sends)) e₀ → Answers s bytes d₀ e₀ x d e
   unfolding steps called calledBy rowsAfter sendsAfter
   run-call x d e up h a b c =
       let r = sym (refusal-up (s .state) up true h) in
       record {
-        report = a ∙ ap (λ (n : ℕ). reportOf n (calledBy n s bytes (length d₀) (length e₀))) r;
-        rows = b ∙ ap (λ (n : ℕ). laid (rowNumbers (calledBy n s bytes (length d₀) (length e₀) .rows)) d₀) r;
-        sends = c ∙ ap (λ (n : ℕ). laid (sendNumbers (calledBy n s bytes (length d₀) (length e₀) .sends)) e₀) r;
+        report = a ∙ ap (λ (n : Code). reportOf n (calledBy n s bytes (length d₀) (length e₀))) r;
+        rows = b ∙ ap (λ (n : Code). laid (rowNumbers (calledBy n s bytes (length d₀) (length e₀) .rows)) d₀) r;
+        sends = c ∙ ap (λ (n : Code). laid (sendNumbers (calledBy n s bytes (length d₀) (length e₀) .sends)) e₀) r;
       }
 
 -- what every step keeps a call keeps
@@ -94,10 +104,10 @@ module _ (P : Session → Type 0) (keeps : (s : Session) (b : List ℕ) → P s 
   unfolding called calledBy refusalIn
   call-keeps s bytes r q h = go (s .state) refl
     where
-      by : (s .state ≡ state.Down → ⊥) → (k : ℕ) → P (calledBy k s bytes r q .session)
-      by up k =
-          either (λ (x : Did Ended). P (x .session)) (eqb k 0) (λ t. course-keeps 0 r q s bytes up h)
-          (λ t. either (λ (x : Did Ended). P (x .session)) (eqb k 20) (λ u. h) (λ u. h))
+      by : (s .state ≡ state.Down → ⊥) → (k : Code) → P (calledBy k s bytes r q .session)
+      by up code.Good = course-keeps 0 r q s bytes up h
+      by up (code.Refused x) = h
+      by up (code.Halted x) = h
 
       go : (p : State) → s .state ≡ p → P (called s bytes r q .session)
       go state.Down e = subst (λ (p : State). P (calledBy (refusalIn p r q) s bytes r q .session)) (sym e) h

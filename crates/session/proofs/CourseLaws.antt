@@ -12,6 +12,7 @@ use borrow.Author.Tests.{le-leb, leb-true, eq-eqb, ne-eqb, eqb-true, eqb-false}
 use Rattle.message.specs.Frame.{framed, frontLength}
 use Rattle.message.specs.Read.{readFramed, readOf}
 use Rattle.message.specs.Refusal.{besidesOf}
+use Rattle.session.specs.declared.state.Code.{Code}
 use Rattle.session.specs.declared.state.Answer.{Answer}
 use Rattle.session.specs.declared.state.Row.{Row}
 use Rattle.session.specs.declared.state.Row.the-variants as row
@@ -25,7 +26,7 @@ use Rattle.session.specs.declared.steps.Ended.the-variants as ended
 use Rattle.session.specs.declared.steps.Next.{Next}
 use Rattle.session.specs.declared.steps.Next.the-variants.{On, Ends}
 use Rattle.session.specs.Day.{step}
-use Rattle.session.specs.State.{last, sortNumber, told, take}
+use Rattle.session.specs.State.{codeNumber, last, sortNumber, told, take}
 use Rattle.session.specs.Steps.{
   Placed,
   rowAt,
@@ -73,17 +74,17 @@ length-sends [] = refl
 length-sends (x ∷ xs) = omega (arith, length-sends xs)
 
 -- after a step that is done the call goes on exactly where the session is not Down
-next-up : (p : State) (code : ℕ) → nextOf p code ≡ On → p ≡ Down → ⊥
+next-up : (p : State) (k : Code) → nextOf p k ≡ On → p ≡ Down → ⊥
 unfolding nextOf
-next-up Down code e d = let z : _≡_ {A = ℕ} 0 1 = cc in omega arith
-next-up Waiting code e d = let z : _≡_ {A = ℕ} 0 1 = cc in omega arith
-next-up Live code e d = let z : _≡_ {A = ℕ} 0 1 = cc in omega arith
+next-up Down k e d = let z : _≡_ {A = ℕ} 0 1 = cc in omega arith
+next-up Waiting k e d = let z : _≡_ {A = ℕ} 0 1 = cc in omega arith
+next-up Live k e d = let z : _≡_ {A = ℕ} 0 1 = cc in omega arith
 
-pub up-next : (p : State) (code : ℕ) → (p ≡ Down → ⊥) → nextOf p code ≡ On
+pub up-next : (p : State) (k : Code) → (p ≡ Down → ⊥) → nextOf p k ≡ On
 unfolding nextOf
-up-next Down code u = absurd (u refl)
-up-next Waiting code u = refl
-up-next Live code u = refl
+up-next Down k u = absurd (u refl)
+up-next Waiting k u = refl
+up-next Live k u = refl
 
 ends-on : {A : Type 0} {why : Ended} → Ends why ≡ On → A
 ends-on e = let z : _≡_ {A = ℕ} 0 1 = cc in absurd (omega arith)
@@ -124,9 +125,9 @@ fits-not at r q a n = go (fits at r q a) refl
 
 -- a turn ends the call before its step, at 1 or without a free slot, or does the step
 pub data Turning (at r q : ℕ) (s : Session) (left : List ℕ) : Did Next → Type 0 where
-  short : step s left .answer .code ≡ 1 → Turning at r q s left (did s (Ends (ended.Short (neededBy (readOf left)))))
-  full : (step s left .answer .code ≡ 1 → ⊥) → (Fits at r q (step s left .answer) → ⊥) → Turning at r q s left (did s (Ends ended.NoSlot))
-  done : (step s left .answer .code ≡ 1 → ⊥) → Fits at r q (step s left .answer) → Turning at r q s left (stepDone at left (step s left))
+  short : codeNumber (step s left .answer .code) ≡ 1 → Turning at r q s left (did s (Ends (ended.Short (neededBy (readOf left)))))
+  full : (codeNumber (step s left .answer .code) ≡ 1 → ⊥) → (Fits at r q (step s left .answer) → ⊥) → Turning at r q s left (did s (Ends ended.NoSlot))
+  done : (codeNumber (step s left .answer .code) ≡ 1 → ⊥) → Fits at r q (step s left .answer) → Turning at r q s left (stepDone at left (step s left))
 
 module _ (at r q : ℕ) (s : Session) (left : List ℕ) where
   -- every turn is one of the three
@@ -134,23 +135,23 @@ module _ (at r q : ℕ) (s : Session) (left : List ℕ) where
   unfolding turnOf turnBy
   turning =
       let a : Answer = step s left .answer in
-      either (Turning at r q s left) (eqb (a .code) 1) (λ t. short (eqb-true (a .code) 1 t))
+      either (Turning at r q s left) (eqb (codeNumber (a .code)) 1) (λ t. short (eqb-true (codeNumber (a .code)) 1 t))
       (λ t. either (Turning at r q s left) (fits at r q a)
-      (λ u. done (eqb-false (a .code) 1 t) (fits-true at r q a u))
-      (λ u. full (eqb-false (a .code) 1 t) (λ f. true≢false (sym (fits-by at r q a f) ∙ u))))
+      (λ u. done (eqb-false (codeNumber (a .code)) 1 t) (fits-true at r q a u))
+      (λ u. full (eqb-false (codeNumber (a .code)) 1 t) (λ f. true≢false (sym (fits-by at r q a f) ∙ u))))
 
   -- and the other way round
-  pub short-turn : step s left .answer .code ≡ 1 → turnOf at r q s left ≡ did s (Ends (ended.Short (neededBy (readOf left))))
+  pub short-turn : codeNumber (step s left .answer .code) ≡ 1 → turnOf at r q s left ≡ did s (Ends (ended.Short (neededBy (readOf left))))
   unfolding turnOf turnBy
-  short-turn c = rw (eq-eqb (step s left .answer .code) 1 c)
+  short-turn c = rw (eq-eqb (codeNumber (step s left .answer .code)) 1 c)
 
-  pub full-turn : (step s left .answer .code ≡ 1 → ⊥) → (Fits at r q (step s left .answer) → ⊥) → turnOf at r q s left ≡ did s (Ends ended.NoSlot)
+  pub full-turn : (codeNumber (step s left .answer .code) ≡ 1 → ⊥) → (Fits at r q (step s left .answer) → ⊥) → turnOf at r q s left ≡ did s (Ends ended.NoSlot)
   unfolding turnOf turnBy
-  full-turn l n = rw (ne-eqb (step s left .answer .code) 1 l, fits-not at r q (step s left .answer) n)
+  full-turn l n = rw (ne-eqb (codeNumber (step s left .answer .code)) 1 l, fits-not at r q (step s left .answer) n)
 
-  pub done-turn : (step s left .answer .code ≡ 1 → ⊥) → Fits at r q (step s left .answer) → turnOf at r q s left ≡ stepDone at left (step s left)
+  pub done-turn : (codeNumber (step s left .answer .code) ≡ 1 → ⊥) → Fits at r q (step s left .answer) → turnOf at r q s left ≡ stepDone at left (step s left)
   unfolding turnOf turnBy
-  done-turn l f = rw (ne-eqb (step s left .answer .code) 1 l, fits-by at r q (step s left .answer) f)
+  done-turn l f = rw (ne-eqb (codeNumber (step s left .answer .code)) 1 l, fits-by at r q (step s left .answer) f)
 
   -- a turn after which the call goes on has used the bytes of a message
   pub turn-uses : (s .state ≡ Down → ⊥) → turnOf at r q s left .after ≡ On → 58 ≤ turnOf at r q s left .used
@@ -258,7 +259,7 @@ pub quick-turn : (at r q : ℕ) (s : Session) (left : List ℕ) → step s left 
       sends = [];
       after = On;
     }
-unfolding turnOf turnBy fits stepDone rowAt sendsOf sendIn rowNumbers sendNumbers sortNumber told nextOf take
+unfolding turnOf turnBy fits stepDone rowAt sendsOf sendIn rowNumbers sendNumbers codeNumber sortNumber told nextOf take
 quick-turn at r q s left e h m =
     let z : 0 ≤ q = omega arith in
     ap (turnBy at r q s left) e ∙ rw (le-leb at last h, le-leb 5 r m, le-leb 0 q z)

@@ -7,7 +7,7 @@ use native.Mathlib.Omega.{arith}
 use lib.Dec.{eqb, leb}
 use lib.ListN.{length, getD}
 use borrow.Author.Tests.{leb-true, leb-false, eqb-true, eqb-false, ne-eqb}
-use Rattle.tables.specs.Tables.{rowOf}
+use Rattle.tables.specs.Tables.{isType, rowOf}
 use Rattle.fields.specs.declared.check.Reason.the-variants.{Field}
 use Rattle.fields.specs.declared.sets.Place.{Place}
 use Rattle.fields.specs.declared.sets.Place.the-variants.{At, Nowhere}
@@ -69,9 +69,9 @@ late-unknown Nowhere l = l
 late : (h : Header) (compId m body : List ℕ) → Late (vet h compId m body)
 unfolding vet vetFields numberOf
 late h compId m body =
-    either Late (leb (h .kind) 10)
+    either Late (isType (h .messagetype))
     (λ a. either Late (goodHeader h compId)
-    (λ b. late-unknown (lowestUnknown (rowOf (h .kind)) m) (late-missing (lowestMissing (rowOf (h .kind)) m) (late-walk (walkOf (rowOf (h .kind)) m body))))
+    (λ b. late-unknown (lowestUnknown (rowOf (h .messagetype)) m) (late-missing (lowestMissing (rowOf (h .messagetype)) m) (late-walk (walkOf (rowOf (h .messagetype)) m body))))
     (λ b. refused (omega arith)))
     (λ a. refused (omega arith))
 

@@ -9,8 +9,10 @@ use lib.ListN.{length, take, drop, length-drop}
 use lib.Seq.{drop-drop}
 use Rattle.wire.specs.Laying.{laid}
 use Rattle.fields.proofs.BufferLaws.{length-laid, lentFrom, Front, front-on, front-own}
-use Rattle.fields.proofs.WalkLaws.{rest-of}
+use Rattle.wire.proofs.TestLaws.{rest-of}
 use Rattle.message.specs.Frame.{frontLength}
+use Rattle.session.specs.declared.state.Code.{Code}
+use Rattle.session.specs.declared.state.Code.the-variants as code
 use Rattle.session.specs.declared.state.Row.the-variants.{Business}
 use Rattle.session.specs.declared.state.Send.{Send}
 use Rattle.session.specs.declared.state.Send.the-variants.{Nothing}
@@ -23,7 +25,7 @@ use Rattle.session.specs.declared.steps.Next.the-variants.{On, Ends}
 use Rattle.session.specs.declared.steps.Turned.{Turned}
 use Rattle.session.specs.Day.{step}
 use Rattle.session.specs.State.{last, sortNumber, take as takes}
-use Rattle.session.specs.Steps.{Placed, rowAt, rowNumbers, sendNumbers, Did, joined, andThen, follow, turnOf, turnedBy, course, reportOf}
+use Rattle.session.specs.Steps.{slotsBy, Placed, rowAt, rowNumbers, sendNumbers, Did, joined, andThen, follow, turnOf, turnedBy, course, reportOf}
 use Rattle.session.proofs.CourseLaws.{numbers-rows, numbers-sends, turn-up, turn-within, turn-rows, turn-sends, turn-uses, length-rows, length-sends, course-turn, quick-turn}
 
 -- what the turns so far have done
@@ -164,7 +166,7 @@ row-five at n e = refl
 pub same-done : (x y : Done) → x .session ≡ y .session → x .code ≡ y .code → x .used ≡ y .used → x .rows ≡ y .rows → x .sends ≡ y .sends
     → x .ended ≡ y .ended → x ≡ y
 same-done x y a b c f g h =
-    ap₂ (λ (s : Session) (k : ℕ). record { session = s; code = k; used = x .used; rows = x .rows; sends = x .sends; ended = x .ended }) a b
+    ap₂ (λ (s : Session) (k : Code). record { session = s; code = k; used = x .used; rows = x .rows; sends = x .sends; ended = x .ended }) a b
     ∙ ap₂ (λ (u r : ℕ). record { session = y .session; code = y .code; used = u; rows = r; sends = x .sends; ended = x .ended }) c f
     ∙ ap₂ (λ (q : ℕ) (w : Ended). record { session = y .session; code = y .code; used = y .used; rows = y .rows; sends = q; ended = w }) g h
 
@@ -262,12 +264,12 @@ module _ {s₀ : Session} {bytes d₀ e₀ d e : List ℕ} {s : Session} {used r
 
     -- the report's rows and messages to send are counted from the numbers laid
     pub going-last : (why : Ended) → x .next ≡ Ends why
-        → (done : Done) → done .session ≡ x .session → done .code ≡ 0 → done .used ≡ used + x .used → done .rows ≡ (row-at + x .rows) / 5
+        → (done : Done) → done .session ≡ x .session → done .code ≡ code.Good → done .used ≡ used + x .used → done .rows ≡ (row-at + x .rows) / 5
         → done .sends ≡ (send-at + x .sends) / 4 → done .ended ≡ why
-        → (done ≡ reportOf 0 (course 0 (length d₀) (length e₀) s₀ bytes))
+        → (done ≡ reportOf code.Good (course 0 (length d₀) (length e₀) s₀ bytes))
         × (lentFrom row-at d y ≡ laid (rowNumbers (course 0 (length d₀) (length e₀) s₀ bytes .rows)) d₀)
         × (lentFrom send-at e v ≡ laid (sendNumbers (course 0 (length d₀) (length e₀) s₀ bytes .sends)) e₀)
-    unfolding t reportOf
+    unfolding t reportOf slotsBy
     going-last why h done a b c f g k =
         let w = going-ends i t is-turn why (ap (λ (z : Turned). z .next) (sym answer) ∙ h) in
         let p : Did Ended = record { session = t .session; used = used + t .used; rows = i .rows ++ t .rows; sends = i .sends ++ t .sends; after = why } in
@@ -277,5 +279,5 @@ module _ {s₀ : Session} {bytes d₀ e₀ d e : List ℕ} {s : Session} {used r
         ap (λ (z : Turned). send-at + z .sends) answer ∙ sym (send-laid .size) ∙ length-sends (i .sends ++ t .sends) in
         let u : done .rows ≡ length (i .rows ++ t .rows) = omega (arith, f, m) in
         let q : done .sends ≡ length (i .sends ++ t .sends) = omega (arith, g, n) in
-        let same = same-done done (reportOf 0 p) (a ∙ ap (λ (z : Turned). z .session) answer) b (c ∙ ap (λ (z : Turned). used + z .used) answer) u q k in
-        (same ∙ ap (reportOf 0) (sym w), row-laid .is ∙ ap (λ (z : Did Ended). laid (rowNumbers (z .rows)) d₀) (sym w), send-laid .is ∙ ap (λ (z : Did Ended). laid (sendNumbers (z .sends)) e₀) (sym w))
+        let same = same-done done (reportOf code.Good p) (a ∙ ap (λ (z : Turned). z .session) answer) b (c ∙ ap (λ (z : Turned). used + z .used) answer) u q k in
+        (same ∙ ap (reportOf code.Good) (sym w), row-laid .is ∙ ap (λ (z : Did Ended). laid (rowNumbers (z .rows)) d₀) (sym w), send-laid .is ∙ ap (λ (z : Did Ended). laid (sendNumbers (z .sends)) e₀) (sym w))

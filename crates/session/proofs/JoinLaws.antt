@@ -7,6 +7,7 @@ use native.Mathlib.Omega.{arith}
 use lib.ListN.{length, drop}
 use lib.Seq.{drop-append-le, drop-drop}
 use Rattle.message.specs.Frame.{frontLength}
+use Rattle.session.specs.declared.state.Code.{Code}
 use Rattle.session.specs.declared.state.Send.{Send}
 use Rattle.session.specs.declared.state.Session.{Session}
 use Rattle.session.specs.declared.state.State.the-variants as state
@@ -14,6 +15,7 @@ use Rattle.session.specs.declared.state.Stepped.{Stepped}
 use Rattle.session.specs.declared.steps.Ended.{Ended}
 use Rattle.session.specs.declared.steps.Ended.the-variants.{Down, NoSlot}
 use Rattle.session.specs.declared.steps.Next.{Next}
+use Rattle.session.specs.State.{codeNumber}
 use Rattle.session.specs.Day.{step}
 use Rattle.session.specs.Steps.{Placed, rowAt, sendsOf, rowNumbers, sendNumbers, Did, did, joined, stepDone, course, further}
 use Rattle.session.proofs.StepLaws.{front-within, front-more, step-more}
@@ -57,7 +59,7 @@ module _ (at r q : ℕ) (s : Session) (b c : List ℕ) where
       let e : step s (b ++ c) ≡ step s b = step-more s b c (d .up) (d .long) in
       record {
         up = d .up;
-        long = λ h. d .long (sym (ap (λ (x : Stepped). x .answer .code) e) ∙ h);
+        long = λ h. d .long (sym (ap (λ (x : Stepped). codeNumber (x .answer .code)) e) ∙ h);
         room = subst (λ (x : Stepped). Fits at r q (x .answer)) (sym e) (d .room);
       }
 
@@ -127,7 +129,7 @@ module _ (s : Session) (b c : List ℕ) (r q r₁ q₁ r₂ q₂ : ℕ) where
   abbrev pub second : Did Ended
   second = course 0 r₂ q₂ (first .session) (drop (first .used) b ++ c)
 
-  pub two-calls : (s .state ≡ state.Down → ⊥) → ((code : ℕ) → first .after ≡ Down code → ⊥) → (second .after ≡ NoSlot → ⊥)
+  pub two-calls : (s .state ≡ state.Down → ⊥) → ((k : Code) → first .after ≡ Down k → ⊥) → (second .after ≡ NoSlot → ⊥)
       → (whole .after ≡ NoSlot → ⊥) → whole ≡ joined first (further (first .used) second)
   unfolding joined
   two-calls up ends h₂ h =

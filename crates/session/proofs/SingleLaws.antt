@@ -8,6 +8,7 @@ use native.Mathlib.Omega.{arith}
 use lib.ListN.{length, drop, length-append, length-drop}
 use Rattle.message.specs.Frame.{frontLength}
 use Rattle.message.specs.Read.{readOf}
+use Rattle.session.specs.declared.state.Code.{Code}
 use Rattle.session.specs.declared.state.Row.{Row}
 use Rattle.session.specs.declared.state.Send.{Send}
 use Rattle.session.specs.declared.state.Session.{Session}
@@ -16,6 +17,7 @@ use Rattle.session.specs.declared.state.State.the-variants as state
 use Rattle.session.specs.declared.steps.Ended.{Ended}
 use Rattle.session.specs.declared.steps.Ended.the-variants.{Short, Down, NoSlot}
 use Rattle.session.specs.declared.steps.Next.{Next}
+use Rattle.session.specs.State.{codeNumber}
 use Rattle.session.specs.Day.{step}
 use Rattle.session.specs.Steps.{
   Placed,
@@ -63,14 +65,14 @@ sends-both xs ys = ap length (numbers-sends xs ys) ∙ length-append (sendNumber
 -- a step that a call does: the session is not Down, the bytes are not too few, and what it hands back finds its slots
 pub record Does (at r q : ℕ) (s : Session) (left : List ℕ) : Type 0 where
   pub up : s .state ≡ state.Down → ⊥
-  pub long : step s left .answer .code ≡ 1 → ⊥
+  pub long : codeNumber (step s left .answer .code) ≡ 1 → ⊥
   pub room : Fits at r q (step s left .answer)
 
 -- x is what a call does, step by step: on the bytes `left`, the first of which stands at place `at`, with r and q numbers free in its lists
 pub data Runs : ℕ → ℕ → ℕ → Session → List ℕ → Did Ended → Type 0 where
-  short : {at r q : ℕ} {s : Session} {left : List ℕ} → (s .state ≡ state.Down → ⊥) → step s left .answer .code ≡ 1
+  short : {at r q : ℕ} {s : Session} {left : List ℕ} → (s .state ≡ state.Down → ⊥) → codeNumber (step s left .answer .code) ≡ 1
       → Runs at r q s left (did s (Short (neededBy (readOf left))))
-  full : {at r q : ℕ} {s : Session} {left : List ℕ} → (s .state ≡ state.Down → ⊥) → (step s left .answer .code ≡ 1 → ⊥)
+  full : {at r q : ℕ} {s : Session} {left : List ℕ} → (s .state ≡ state.Down → ⊥) → (codeNumber (step s left .answer .code) ≡ 1 → ⊥)
       → (Fits at r q (step s left .answer) → ⊥) → Runs at r q s left (did s NoSlot)
   down : {at r q : ℕ} {s : Session} {left : List ℕ} → Does at r q s left → step s left .session .state ≡ state.Down
       → Runs at r q s left (joined (stepDone at left (step s left)) (did (step s left .session) (Down (step s left .answer .code))))
@@ -164,20 +166,20 @@ runs-singles {at = at} {s = s} {left = left} (on d u c) =
 
 -- where the session is Down, and where it is not
 runs-down : {at r q : ℕ} {s : Session} {left : List ℕ} {x : Did Ended} → Runs at r q s left x → x .session .state ≡ state.Down
-    → (code : ℕ) × (x .after ≡ Down code)
+    → (k : Code) × (x .after ≡ Down k)
 unfolding joined
 runs-down (short up c) h = absurd (up h)
 runs-down (full up l f) h = absurd (up h)
 runs-down {s = s} {left = left} (down d e) h = (step s left .answer .code, refl)
 runs-down (on d u c) h = runs-down c h
 
-runs-ended : {at r q : ℕ} {s : Session} {left : List ℕ} {x : Did Ended} → Runs at r q s left x → (code : ℕ) → x .after ≡ Down code
+runs-ended : {at r q : ℕ} {s : Session} {left : List ℕ} {x : Did Ended} → Runs at r q s left x → (k : Code) → x .after ≡ Down k
     → x .session .state ≡ state.Down
 unfolding joined
-runs-ended (short up c) code h = let z : _≡_ {A = ℕ} 0 1 = cc in absurd (omega arith)
-runs-ended (full up l f) code h = let z : _≡_ {A = ℕ} 0 1 = cc in absurd (omega arith)
-runs-ended (down d e) code h = e
-runs-ended (on d u c) code h = runs-ended c code h
+runs-ended (short up c) k h = let z : _≡_ {A = ℕ} 0 1 = cc in absurd (omega arith)
+runs-ended (full up l f) k h = let z : _≡_ {A = ℕ} 0 1 = cc in absurd (omega arith)
+runs-ended (down d e) k h = e
+runs-ended (on d u c) k h = runs-ended c k h
 
 -- the bytes that are used, and the numbers that are taken
 runs-within : {at r q : ℕ} {s : Session} {left : List ℕ} {x : Did Ended} → Runs at r q s left x → x .used ≤ length left
@@ -214,10 +216,10 @@ module _ (at r q : ℕ) (s : Session) (left : List ℕ) (up : s .state ≡ state
   single-steps = runs-singles (course-runs at r q s left up)
 
   -- a call leaves the session Down exactly where it ends so
-  pub ended-down : course at r q s left .session .state ≡ state.Down → (code : ℕ) × (course at r q s left .after ≡ Down code)
+  pub ended-down : course at r q s left .session .state ≡ state.Down → (k : Code) × (course at r q s left .after ≡ Down k)
   ended-down = runs-down (course-runs at r q s left up)
 
-  pub down-ended : (code : ℕ) → course at r q s left .after ≡ Down code → course at r q s left .session .state ≡ state.Down
+  pub down-ended : (k : Code) → course at r q s left .after ≡ Down k → course at r q s left .session .state ≡ state.Down
   down-ended = runs-ended (course-runs at r q s left up)
 
   -- it uses no more bytes than there are

@@ -22,6 +22,8 @@ use Rattle.message.specs.Refusal.{numberOf}
 use Rattle.message.proofs.FrameLaws.{framed-by, front-by, own-comp-id, own-map, own-body, framed-more}
 use Rattle.message.proofs.ReadLaws.{WholeAt, read-front, read-more}
 use Rattle.session.specs.declared.arrival.Arrival.the-variants.{Good}
+use Rattle.session.specs.declared.state.Code.{Code}
+use Rattle.session.specs.declared.state.Code.the-variants as code
 use Rattle.session.specs.declared.state.Row.{Row}
 use Rattle.session.specs.declared.state.Row.the-variants as row
 use Rattle.session.specs.declared.state.Session.{Session}
@@ -29,8 +31,8 @@ use Rattle.session.specs.declared.state.State.{State}
 use Rattle.session.specs.declared.state.State.the-variants.{Down, Waiting, Live}
 use Rattle.session.specs.declared.state.Stepped.{Stepped}
 use Rattle.session.specs.Arrival.{isOurs, messageIn, arrivalBy, arrivalOf}
-use Rattle.session.specs.Day.{refused, arrived, stepIn, step}
-use Rattle.session.specs.State.{last, leave, stop}
+use Rattle.session.specs.Day.{refused, arrived, stepIn, stepBy, step}
+use Rattle.session.specs.State.{last, codeNumber, leave}
 use Rattle.session.proofs.Effect.{either}
 use Rattle.session.proofs.SessionLaws.{spoiled-nothing}
 
@@ -78,24 +80,24 @@ front-within s = go (front s)
     go (bad-length e) = none refusal.BadLength e (λ h. omega arith)
 
 -- bytes that the reader refuses, but for 1 and 4, leave no session up
-left-down : (s : Session) (code e : ℕ) (r : Row) → leave s code e r .session .state ≡ Down
+left-down : (s : Session) (k : Code) (e : ℕ) (r : Row) → leave s k e r .session .state ≡ Down
 unfolding leave
-left-down s code e r = either (λ (x : Stepped). x .session .state ≡ Down) (ltb (s .own) last) (λ t. refl) (λ t. refl)
+left-down s k e r = either (λ (x : Stepped). x .session .state ≡ Down) (ltb (s .own) last) (λ t. refl) (λ t. refl)
 
-refused-down : (s : Session) (k : ℕ) → (k ≡ 1 → ⊥) → (k ≡ 4 → ⊥) → refused s k .session .state ≡ Down
-unfolding refused stop
-refused-down s k n m =
+refused-down : (s : Session) (r : Refusal) → (numberOf r ≡ 1 → ⊥) → (numberOf r ≡ 4 → ⊥) → refused s r .session .state ≡ Down
+unfolding refused
+refused-down s r n m =
     let P : Stepped → Type 0 = λ x. x .session .state ≡ Down in
-    either P (eqb k 1) (λ t. absurd (n (eqb-true k 1 t)))
-    (λ t. either P (eqb k 4) (λ u. absurd (m (eqb-true k 4 u))) (λ u. left-down s k (s .expected) row.Nothing))
+    either P (eqb (numberOf r) 1) (λ t. absurd (n (eqb-true (numberOf r) 1 t)))
+    (λ t. either P (eqb (numberOf r) 4) (λ u. absurd (m (eqb-true (numberOf r) 4 u))) (λ u. left-down s (code.Refused r) (s .expected) row.Nothing))
 
 module _ (s : Session) (left : List ℕ) (up : s .state ≡ Down → ⊥) where
   -- a step on a session that is not Down looks at its bytes
   pub step-arrived : step s left ≡ arrived s (arrivalOf (s .ours) left)
-  unfolding step stepIn
+  unfolding step stepBy stepIn arrivalOf
   step-arrived = go (s .state) up
     where
-      go : (p : State) → (p ≡ Down → ⊥) → stepIn p s left ≡ arrived s (arrivalOf (s .ours) left)
+      go : (p : State) → (p ≡ Down → ⊥) → stepIn p s left (readOf left) ≡ arrived s (arrivalOf (s .ours) left)
       go Down u = absurd (u refl)
       go Waiting u = refl
       go Live u = refl
@@ -104,15 +106,15 @@ module _ (s : Session) (left : List ℕ) (up : s .state ≡ Down → ⊥) where
   unfolding arrived arrivalOf arrivalBy
   stop-down r e n m =
       ap (λ (x : Stepped). x .session .state) (step-arrived ∙ ap (λ (x : Reading). arrived s (arrivalBy (s .ours) left x)) e)
-      ∙ refused-down s (numberOf r) n m
+      ∙ refused-down s r n m
 
   -- too few bytes are code 1
-  pub short-code : (n : ℕ) → readOf left ≡ reading.Refused (refusal.Short n) → step s left .answer .code ≡ 1
-  unfolding numberOf
-  short-code n e = spoiled-nothing s left (refusal.Short n) up e (inl refl) .code
+  pub short-code : (n : ℕ) → readOf left ≡ reading.Refused (refusal.Short n) → codeNumber (step s left .answer .code) ≡ 1
+  unfolding numberOf codeNumber
+  short-code n e = ap codeNumber (spoiled-nothing s left (refusal.Short n) up e (inl refl) .code)
 
   -- a step that neither met 1 nor left the session Down had a message of 58 bytes or more
-  pub step-uses : (step s left .answer .code ≡ 1 → ⊥) → (step s left .session .state ≡ Down → ⊥) → 58 ≤ frontLength left
+  pub step-uses : (codeNumber (step s left .answer .code) ≡ 1 → ⊥) → (step s left .session .state ≡ Down → ⊥) → 58 ≤ frontLength left
   unfolding numberOf readOf readFramed
   step-uses long on = go (front left)
     where
@@ -147,7 +149,7 @@ module _ (b c : List ℕ) (long : (n : ℕ) → readOf b ≡ reading.Refused (re
       go (reading.Refused r) e = refl
 
 -- so a step that did not meet 1 is the same with more bytes behind it, and uses as many
-module _ (s : Session) (b c : List ℕ) (up : s .state ≡ Down → ⊥) (long : step s b .answer .code ≡ 1 → ⊥) where
+module _ (s : Session) (b c : List ℕ) (up : s .state ≡ Down → ⊥) (long : codeNumber (step s b .answer .code) ≡ 1 → ⊥) where
   pub front-more : frontLength (b ++ c) ≡ frontLength b
   front-more = frame-more b c (λ n e. long (short-code s b up n e))
 

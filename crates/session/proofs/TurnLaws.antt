@@ -18,12 +18,12 @@ use Rattle.session.specs.declared.state.Session.{Session}
 use Rattle.session.specs.declared.state.State.{State}
 use Rattle.session.specs.declared.state.State.the-variants.{Down, Waiting, Live}
 use Rattle.session.specs.Arrival.{isOurs, messageIn, arrivalBy, arrivalOf}
-use Rattle.session.specs.Day.{arrived, stepIn, step}
-use Rattle.session.specs.Rules.{equal, numbered, live, ruledIn, ruled}
+use Rattle.session.specs.Day.{arrived, stepIn, stepBy, step}
+use Rattle.session.specs.Rules.{equal, numbered, live, forUs, ruledIn, ruled}
 use Rattle.session.specs.State.{last, take}
 use Rattle.session.specs.Turn.{isLive, isDueHeader, dueIn, dueLength}
 use Rattle.session.proofs.FrontLaws.{front-good, front-most}
-use Rattle.session.proofs.KindLaws.{above-eight}
+use Rattle.session.proofs.TypeLaws.{above-eight}
 use Rattle.session.proofs.StepLaws.{front-within}
 
 -- tests joined
@@ -40,22 +40,22 @@ pub record Due (s : Session) (left : List ℕ) (n : ℕ) : Type 0 where
   pub more : s .expected < last
 
 module _ (s : Session) (left : List ℕ) (h : Header) (n : ℕ) (r : readOf left ≡ Good h n) where
-  taken-by : s .state ≡ Live → isOurs (s .ours) left ≡ true → 8 < h .kind → h .number ≡ s .expected → s .expected < last
+  taken-by : s .state ≡ Live → isOurs (s .ours) left ≡ true → 8 < h .messagetype → h .number ≡ s .expected → s .expected < last
       → step s left ≡ take s (s .expected + 1) (s .own) Nothing (row.Business (s .expected))
-  unfolding step stepIn arrived arrivalOf arrivalBy messageIn ruled ruledIn live numbered equal
+  unfolding step stepBy stepIn arrived arrivalBy messageIn ruled ruledIn forUs live numbered equal
   taken-by l o k d m =
-      simp (l, r, o, sym (above-eight (h .kind) (mapIn left) (bodyIn n left) k), d, le-ltb (s .expected) (s .expected) (omega arith), ne-eqb (s .expected) last (omega arith))
+      simp (l, r, o, sym (above-eight (h .messagetype) (mapIn left) (bodyIn n left) k), d, le-ltb (s .expected) (s .expected) (omega arith), ne-eqb (s .expected) last (omega arith))
 
   due-good : s .state ≡ Live → isDueHeader h (s .expected) && isOurs (s .ours) left ≡ true → Due s left n
   unfolding isDueHeader
   due-good l t =
       let a = and-true (isDueHeader h (s .expected)) (isOurs (s .ours) left) t in
-      let b = and-true (ltb 8 (h .kind) && eqb (h .number) (s .expected)) (ltb (s .expected) last) (a .0) in
-      let c = and-true (ltb 8 (h .kind)) (eqb (h .number) (s .expected)) (b .0) in
+      let b = and-true (ltb 8 (h .messagetype) && eqb (h .number) (s .expected)) (ltb (s .expected) last) (a .0) in
+      let c = and-true (ltb 8 (h .messagetype)) (eqb (h .number) (s .expected)) (b .0) in
       let m = ltb-true (s .expected) last (b .1) in
       let g = front-good left h n r in
       record {
-        taken = taken-by l (a .1) (ltb-true 8 (h .kind) (c .0)) (eqb-true (h .number) (s .expected) (c .1)) m;
+        taken = taken-by l (a .1) (ltb-true 8 (h .messagetype) (c .0)) (eqb-true (h .number) (s .expected) (c .1)) m;
         size = sym g;
         within = omega (arith, g, front-within left);
         most = omega (arith, g, front-most left);

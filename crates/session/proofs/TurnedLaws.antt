@@ -7,26 +7,20 @@ use Rattle.message.specs.declared.read.Reading.{Reading}
 use Rattle.message.specs.Frame.{frontLength}
 use Rattle.message.specs.Read.{readOf}
 use Rattle.wire.specs.Laying.{laid}
-use Rattle.session.specs.declared.arrival.Arrival.{Arrival}
 use Rattle.session.specs.declared.state.Session.{Session}
-use Rattle.session.specs.declared.state.State.the-variants.{Down}
 use Rattle.session.specs.declared.state.Stepped.{Stepped}
 use Rattle.session.specs.declared.steps.Ended.{Ended}
 use Rattle.session.specs.declared.steps.Next.{Next}
 use Rattle.session.specs.declared.steps.Next.the-variants.{Ends}
 use Rattle.session.specs.declared.steps.Turned.{Turned}
-use Rattle.session.specs.Arrival.{arrivalBy, arrivalOf}
-use Rattle.session.specs.Day.{arrived, step}
+use Rattle.session.specs.Day.{stepBy, step}
 use Rattle.session.specs.Steps.{rowAt, sendsOf, rowNumbers, sendNumbers, Did, did, nextOf, stepDone, turnedBy}
 use Rattle.session.proofs.SlotLaws.{laid-none}
-use Rattle.session.proofs.StepLaws.{step-arrived}
 
 -- what was read decides the step
-pub read-step : (s : Session) (left : List ℕ) (read : Reading) (a : Arrival) (x : Stepped) → (s .state ≡ Down → ⊥) → read ≡ readOf left
-    → a ≡ arrivalBy (s .ours) left read → x ≡ arrived s a → x ≡ step s left
-unfolding arrivalOf
-read-step s left read a x up r e f =
-    f ∙ ap (arrived s) (e ∙ ap (arrivalBy (s .ours) left) r) ∙ sym (step-arrived s left up)
+pub read-step : (s : Session) (left : List ℕ) (read : Reading) (x : Stepped) → read ≡ readOf left → x ≡ stepBy s left read → x ≡ step s left
+unfolding step
+read-step s left read x r e = e ∙ ap (stepBy s left) r
 
 -- what a turn is to give back, t, with its lists d and e, which were d₀ and e₀
 pub record Turns (t : Did Next) (x : Turned) (d₀ d e₀ e : List ℕ) : Type 0 where

@@ -1,6 +1,7 @@
 -- Document 02, item 1: many messages in one call. The messages of a lent slice stand back to back, and each is stepped on in turn.
 use Prim.Native.Nat.{ℕ, zero, suc, _+_, _-_, _*_}
 use mathlib.Core.Bool.{Bool, false, cond}
+use mathlib.Core.Path.{_≡_}
 use mathlib.Core.List.{List, [], _∷_, _++_}
 use lib.Dec.{eqb, leb}
 use lib.ListN.{length, drop}
@@ -9,8 +10,12 @@ use Rattle.message.specs.declared.read.Reading.{Reading}
 use Rattle.message.specs.declared.read.Reading.the-variants as reading
 use Rattle.message.specs.Frame.{frontLength}
 use Rattle.message.specs.Read.{readOf}
-use Rattle.message.specs.Refusal.{besidesOf}
+use Rattle.message.specs.declared.refusal.Refusal.the-variants.{NoRoom}
+use Rattle.message.specs.Refusal.{besidesOf, short}
 use Rattle.session.specs.declared.state.Answer.{Answer}
+use Rattle.session.specs.declared.state.Code.{Code}
+use Rattle.session.specs.declared.state.Code.the-variants.{Good, Refused, Halted}
+use Rattle.session.specs.declared.state.Halt.the-variants as halt
 use Rattle.session.specs.declared.state.Row.{Row}
 use Rattle.session.specs.declared.state.Send.{Send}
 use Rattle.session.specs.declared.state.Session.{Session}
@@ -24,7 +29,7 @@ use Rattle.session.specs.declared.steps.Next.{Next}
 use Rattle.session.specs.declared.steps.Next.the-variants.{On, Ends}
 use Rattle.session.specs.declared.steps.Turned.{Turned}
 use Rattle.session.specs.Day.{step}
-use Rattle.session.specs.State.{last, firstOf, lastOf, sortNumber, told}
+use Rattle.session.specs.State.{last, codeNumber, firstOf, lastOf, sortNumber, told}
 
 -- a row, where in the slice its message begins, and how long that is
 pub record Placed : Type 0 where
@@ -74,7 +79,7 @@ unfoldable pub joined : {A B : Type 0} → Did A → Did B → Did B
 joined x y = record { session = y .session; used = x .used + y .used; rows = x .rows ++ y .rows; sends = x .sends ++ y .sends; after = y .after }
 
 -- after a step: Down ends the call, with the step's code
-unfoldable pub nextOf : State → ℕ → Next
+unfoldable pub nextOf : State → Code → Next
 nextOf state.Down code = Ends (Down code)
 nextOf state.Waiting code = On
 nextOf state.Live code = On
@@ -106,7 +111,7 @@ neededBy (reading.Refused r) = besidesOf r
 -- a turn: 1 ends the call, and so does a row or a message to send without a free slot, each before the step
 unfoldable pub turnBy : ℕ → ℕ → ℕ → Session → List ℕ → Stepped → Did Next
 turnBy at r q s left x =
-    cond (eqb (x .answer .code) 1) (did s (Ends (Short (neededBy (readOf left))))) (
+    cond (eqb (codeNumber (x .answer .code)) short) (did s (Ends (Short (neededBy (readOf left))))) (
     cond (fits at r q (x .answer)) (stepDone at left x)
     (did s (Ends NoSlot)))
 
@@ -116,6 +121,13 @@ turnOf at r q s left = turnBy at r q s left (step s left)
 -- a turn, with the numbers that it lays into each list counted
 abbrev pub turnedBy : Did Next → Turned
 turnedBy t = record { session = t .session; used = t .used; rows = length (rowNumbers (t .rows)); sends = length (sendNumbers (t .sends)); next = t .after }
+
+-- what a turn gives, r, and the lists d and e afterwards
+abbrev pub LaysTurn : ℕ → Session → List ℕ → List ℕ → List ℕ → Turned → List ℕ → List ℕ → Type 0
+LaysTurn at s left d e r d′ e′ =
+    (r ≡ turnedBy (turnOf at (length d) (length e) s left))
+    × (d′ ≡ laid (rowNumbers (turnOf at (length d) (length e) s left .rows)) d)
+    × (e′ ≡ laid (sendNumbers (turnOf at (length d) (length e) s left .sends)) e)
 
 -- a turn, and if the call goes on the turns after it
 unfoldable pub andThen : Did Next → Next → Did Ended → Did Ended
@@ -141,28 +153,42 @@ course at r q s left = turns (length left) at r q s left
 unfoldable pub hasRoom : ℕ → ℕ → Bool
 hasRoom r q = cond (leb aRow r) (leb (2 * aSend) q) false
 
-unfoldable pub refusalIn : State → ℕ → ℕ → ℕ
-refusalIn state.Down r q = 20
-refusalIn state.Waiting r q = cond (hasRoom r q) 0 11
-refusalIn state.Live r q = cond (hasRoom r q) 0 11
+unfoldable pub refusalIn : State → ℕ → ℕ → Code
+refusalIn state.Down r q = Halted halt.Down
+refusalIn state.Waiting r q = cond (hasRoom r q) Good (Refused (NoRoom (aRow + 2 * aSend)))
+refusalIn state.Live r q = cond (hasRoom r q) Good (Refused (NoRoom (aRow + 2 * aSend)))
 
 -- what a call does: nothing where it is refused
-unfoldable pub calledBy : ℕ → Session → List ℕ → ℕ → ℕ → Did Ended
-calledBy k s bytes r q = cond (eqb k 0) (course 0 r q s bytes) (cond (eqb k 20) (did s (Down 20)) (did s NoSlot))
+unfoldable pub calledBy : Code → Session → List ℕ → ℕ → ℕ → Did Ended
+calledBy Good s bytes r q = course 0 r q s bytes
+calledBy (Refused x) s bytes r q = did s NoSlot
+calledBy (Halted h) s bytes r q = did s (Down (Halted h))
 
 unfoldable pub called : Session → List ℕ → ℕ → ℕ → Did Ended
 called s bytes r q = calledBy (refusalIn (s .state) r q) s bytes r q
 
 -- the report; with 11 it says the slots that are needed
-unfoldable pub reportOf : ℕ → Did Ended → Done
+unfoldable pub slotsBy : Code → ℕ → ℕ → ℕ
+slotsBy Good done needed = done
+slotsBy (Refused x) done needed = needed
+slotsBy (Halted h) done needed = done
+
+unfoldable pub reportOf : Code → Did Ended → Done
 reportOf k x = record {
   session = x .session;
   code = k;
   used = x .used;
-  rows = cond (eqb k 11) 1 (length (x .rows));
-  sends = cond (eqb k 11) 2 (length (x .sends));
+  rows = slotsBy k (length (x .rows)) 1;
+  sends = slotsBy k (length (x .sends)) 2;
   ended = x .after;
 }
+
+-- a call that is not refused: its report r, and the lists d and e afterwards
+abbrev pub LaysRun : Session → List ℕ → List ℕ → List ℕ → Done → List ℕ → List ℕ → Type 0
+LaysRun s bytes d e r d′ e′ =
+    (r ≡ reportOf Good (course 0 (length d) (length e) s bytes))
+    × (d′ ≡ laid (rowNumbers (course 0 (length d) (length e) s bytes .rows)) d)
+    × (e′ ≡ laid (sendNumbers (course 0 (length d) (length e) s bytes .sends)) e)
 
 unfoldable pub steps : Session → List ℕ → ℕ → ℕ → Done
 steps s bytes r q = reportOf (refusalIn (s .state) r q) (called s bytes r q)
@@ -173,6 +199,10 @@ rowsAfter s bytes rows sends = laid (rowNumbers (called s bytes (length rows) (l
 
 unfoldable pub sendsAfter : Session → List ℕ → List ℕ → List ℕ → List ℕ
 sendsAfter s bytes rows sends = laid (sendNumbers (called s bytes (length rows) (length sends) .sends)) sends
+
+-- a call: its report r, and the lists d and e afterwards
+abbrev pub LaysSteps : Session → List ℕ → List ℕ → List ℕ → Done → List ℕ → List ℕ → Type 0
+LaysSteps s bytes d e r d′ e′ = (r ≡ steps s bytes (length d) (length e)) × (d′ ≡ rowsAfter s bytes d e) × (e′ ≡ sendsAfter s bytes d e)
 
 -- for the laws: single steps in turn, so many, each on what the one before it left
 unfoldable pub singles : ℕ → ℕ → Session → List ℕ → Ended → Did Ended

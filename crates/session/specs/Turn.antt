@@ -4,6 +4,7 @@ use Prim.Native.Nat.{ℕ}
 use mathlib.Core.Bool.{Bool, true, false, cond, _&&_}
 use mathlib.Core.List.{List}
 use lib.Dec.{eqb, ltb}
+use Rattle.tables.specs.Types.{lookupResponseType}
 use Rattle.message.specs.declared.frame.Header.{Header}
 use Rattle.message.specs.declared.read.Reading.{Reading}
 use Rattle.message.specs.declared.read.Reading.the-variants.{Good, Refused}
@@ -20,7 +21,7 @@ isLive Live = true
 
 -- the header of business with the number e, which is not the last
 unfoldable pub isDueHeader : Header → ℕ → Bool
-isDueHeader h e = (ltb 8 (h .kind) && eqb (h .number) e) && ltb e last
+isDueHeader h e = (ltb lookupResponseType (h .messagetype) && eqb (h .number) e) && ltb e last
 
 -- of a message of ours its length, 0 for any other
 unfoldable pub dueIn : Session → List ℕ → Reading → ℕ

@@ -1,17 +1,29 @@
 // What one step finds at the front of its bytes: the reader's refusal, or what the rules need of a good message.
 use crate::state::LAST;
+use crate::state::MOST_ID;
 use crate::state::Session;
 use crate::state::State;
 use fields::value::Value;
 use fields::value::value_of;
+use message::frame::COMP_ID_BYTES;
 use message::frame::Header;
 use message::frame::body_in;
 use message::frame::comp_bytes_in;
 use message::frame::comp_id_in;
 use message::frame::map_in;
 use message::read::Reading;
-use message::read::read;
+use message::refusal::Refusal;
 use tables::dictionary::Field;
+use tables::dictionary::YES;
+use tables::table::HEARTBEAT;
+use tables::table::LOGON;
+use tables::table::LOGOUT;
+use tables::table::LOOKUP_REQUEST;
+use tables::table::LOOKUP_RESPONSE;
+use tables::table::REJECT;
+use tables::table::RESEND_REQUEST;
+use tables::table::SEQUENCE_RESET;
+use tables::table::TEST_REQUEST;
 use wire::number::read_eight;
 use wire::text::fixed_part;
 ghost use mathlib.Core.Path.{_≡_};
@@ -20,7 +32,10 @@ ghost use Prim.Native.Nat.{_≤_};
 ghost use Rattle.wire.specs.Text.{fixedPart};
 ghost use Rattle.message.specs.Frame.{mapIn, bodyIn};
 ghost use Rattle.session.specs.Turn.{isDueHeader, dueLength};
-ghost use Rattle.session.specs.Arrival.{sameBytes, upTo, isYes, sequenceReset, contentOf, isOurs, arrivalBy, arrivalOf};
+ghost use Rattle.session.specs.Arrival.{sameBytes, upTo, isYes, sequenceReset, contentOf, isOurs, arrivalBy};
+
+// Gap Fill as it is read, where it is 'Y'.
+const GAP_FILL: u64 = YES as u64;
 
 // A message's type, with the numbers of its fields that the rules name.
 pub enum Content {
@@ -52,7 +67,7 @@ pub struct Message {
 }
 
 pub enum Arrival {
-    Refused(u32),
+    Refused(Refusal),
     Good(Message),
 }
 
@@ -92,7 +107,7 @@ fn is_yes(value: Value) -> bool
     ensures { λ r. ⌜ r ≡ isYes value ⌝ }
 {
     match value {
-        Value::Number(n) => n == 89,
+        Value::Number(n) => n == GAP_FILL,
         Value::Decimal(_) => false,
         Value::Text(_) => false,
         Value::Bad => false,
@@ -105,8 +120,11 @@ fn is_yes(value: Value) -> bool
 fn sequence_reset(map: &[u8], body: &[u8]) -> Content
     ensures { λ r. ⌜ r ≡ sequenceReset (now (map .entry)) (now (body .entry)) ⌝ }
 {
-    let new = up_to(value_of(4, map, body, Field::NewSequenceNumber), 4294967295);
-    if is_yes(value_of(4, map, body, Field::GapFill)) {
+    let new = up_to(
+        value_of(SEQUENCE_RESET, map, body, Field::NewSequenceNumber),
+        LAST,
+    );
+    if is_yes(value_of(SEQUENCE_RESET, map, body, Field::GapFill)) {
         Content::GapFill(new)
     } else {
         Content::Reset(new)
@@ -114,40 +132,49 @@ fn sequence_reset(map: &[u8], body: &[u8]) -> Content
 }
 
 // A message's content, with the numbers of the fields that the rules name. Where they name none, none is looked for.
-fn content_of(kind: u8, map: &[u8], body: &[u8]) -> Content
-    ensures { λ r. ⌜ r ≡ contentOf kind (now (map .entry)) (now (body .entry)) ⌝ }
+fn content_of(messagetype: u8, map: &[u8], body: &[u8]) -> Content
+    ensures { λ r. ⌜ r ≡ contentOf messagetype (now (map .entry)) (now (body .entry)) ⌝ }
 {
-    match kind {
-        0 => Content::Heartbeat,
-        1 => Content::TestRequest(
-            up_to(value_of(1, map, body, Field::TestRequestId), 65535) as u16,
+    match messagetype {
+        HEARTBEAT => Content::Heartbeat,
+        TEST_REQUEST => Content::TestRequest(
+            up_to(
+                value_of(TEST_REQUEST, map, body, Field::TestRequestId),
+                MOST_ID,
+            ) as u16,
         ),
-        2 => Content::ResendRequest(
-            up_to(value_of(2, map, body, Field::StartSequence), 4294967295),
-            up_to(value_of(2, map, body, Field::EndSequence), 4294967295),
+        RESEND_REQUEST => Content::ResendRequest(
+            up_to(
+                value_of(RESEND_REQUEST, map, body, Field::StartSequence),
+                LAST,
+            ),
+            up_to(
+                value_of(RESEND_REQUEST, map, body, Field::EndSequence),
+                LAST,
+            ),
         ),
-        3 => Content::Reject,
-        4 => sequence_reset(map, body),
-        5 => Content::Logon(up_to(
-            value_of(5, map, body, Field::NextExpectedMessageSequence),
-            4294967295,
+        REJECT => Content::Reject,
+        SEQUENCE_RESET => sequence_reset(map, body),
+        LOGON => Content::Logon(up_to(
+            value_of(LOGON, map, body, Field::NextExpectedMessageSequence),
+            LAST,
         )),
-        6 => Content::Logout,
-        7 => Content::Lookup,
-        8 => Content::Lookup,
+        LOGOUT => Content::Logout,
+        LOOKUP_REQUEST => Content::Lookup,
+        LOOKUP_RESPONSE => Content::Lookup,
         _ => Content::Business,
     }
 }
 
 // The same of the message of this length at the front of s. Business, which most messages are, has no field that the rules
 // name, so map and body are not looked for.
-fn content_in(kind: u8, s: &[u8], length: usize) -> Content
-    ensures { λ r. ⌜ r ≡ contentOf kind (mapIn (now (s .entry))) (bodyIn length (now (s .entry))) ⌝ }
+fn content_in(messagetype: u8, s: &[u8], length: usize) -> Content
+    ensures { λ r. ⌜ r ≡ contentOf messagetype (mapIn (now (s .entry))) (bodyIn length (now (s .entry))) ⌝ }
 {
-    if 8 < kind {
+    if LOOKUP_RESPONSE < messagetype {
         return Content::Business;
     }
-    content_of(kind, map_in(s), body_in(s, length))
+    content_of(messagetype, map_in(s), body_in(s, length))
 }
 
 // Whether two texts of twelve bytes are the same up to a null, which stands behind the first eight. Most Comp IDs that
@@ -155,17 +182,17 @@ fn content_in(kind: u8, s: &[u8], length: usize) -> Content
 fn is_same_start(a: &[u8], b: &[u8]) -> bool
     ensures { λ r. ⌜ (r ≡ true → fixedPart 12 (now (a .entry)) ≡ fixedPart 12 (now (b .entry))) ⌝ }
 {
-    if a.len() < 12 {
+    if a.len() < COMP_ID_BYTES {
         return false;
     }
-    if b.len() < 12 {
+    if b.len() < COMP_ID_BYTES {
         return false;
     }
     if read_eight(a) != read_eight(b) {
         return false;
     }
     let mut i = 8;
-    while i < 12 {
+    while i < COMP_ID_BYTES {
         if a[i] != b[i] {
             return false;
         }
@@ -184,11 +211,11 @@ fn is_ours(ours: &[u8; 12], s: &[u8]) -> bool
     if is_same_start(ours, comp_bytes_in(s)) {
         return true;
     }
-    is_same(fixed_part(ours, 12), comp_id_in(s))
+    is_same(fixed_part(ours, COMP_ID_BYTES), comp_id_in(s))
 }
 
 // What was read at the front of s: a good message's fields that the rules name.
-pub fn arrival_by(ours: &[u8; 12], s: &[u8], reading: Reading) -> Arrival
+pub(crate) fn arrival_by(ours: &[u8; 12], s: &[u8], reading: Reading) -> Arrival
     ensures { λ r. ⌜ r ≡ arrivalBy (now (ours .entry)) (now (s .entry)) reading ⌝ }
 {
     match reading {
@@ -196,24 +223,17 @@ pub fn arrival_by(ours: &[u8; 12], s: &[u8], reading: Reading) -> Arrival
             number: header.number,
             possdup: header.possdup == 1,
             ours: is_ours(ours, s),
-            content: content_in(header.kind, s, length),
+            content: content_in(header.messagetype, s, length),
         }),
-        Reading::Refused(refusal) => Arrival::Refused(refusal.number()),
+        Reading::Refused(refusal) => Arrival::Refused(refusal),
     }
-}
-
-// The message at the front of s: one checksum pass and one walk, and then the fields that the rules name.
-pub fn arrival_of(ours: &[u8; 12], s: &[u8]) -> Arrival
-    ensures { λ r. ⌜ r ≡ arrivalOf (now (ours .entry)) (now (s .entry)) ⌝ }
-{
-    arrival_by(ours, s, read(s))
 }
 
 // Whether a header is that of business with the number e, which is not the last.
 fn is_due_header(header: Header, e: u32) -> bool
     ensures { λ r. ⌜ r ≡ isDueHeader header e ⌝ }
 {
-    (8 < header.kind) & (header.number == e) & (e < LAST)
+    (LOOKUP_RESPONSE < header.messagetype) & (header.number == e) & (e < LAST)
 }
 
 impl Session {

@@ -1,9 +1,12 @@
 // Many messages in one call (document 02, item 1): the messages of a lent slice stand back to back, and each is stepped on in
 // turn. Rows and messages to send are laid as numbers into two lent lists.
-use crate::arrival::arrival_by;
 use crate::state::Answer;
+use crate::state::Code;
+use crate::state::Halt;
 use crate::state::LAST;
+use crate::state::ROW_NONE;
 use crate::state::Row;
+use crate::state::SEND_NONE;
 use crate::state::Send;
 use crate::state::Session;
 use crate::state::State;
@@ -15,6 +18,9 @@ use crate::state::told;
 use message::frame::front_length;
 use message::read::Reading;
 use message::read::read;
+use message::refusal::BAD_SUM;
+use message::refusal::Refusal;
+use message::refusal::SHORT;
 ghost use mathlib.Core.Path.{_≡_};
 ghost use mathlib.Core.List.{[], _∷_};
 ghost use Prim.Native.Nat.{ℕ, _+_, _≤_, _<_};
@@ -22,12 +28,13 @@ ghost use lib.ListN.{length};
 ghost use Rattle.wire.specs.Laying.{laid};
 ghost use Rattle.message.specs.Frame.{frontLength};
 ghost use Rattle.message.specs.Read.{readOf};
+ghost use Rattle.session.specs.declared.state.Code.the-variants.{Good};
 ghost use Rattle.session.specs.declared.state.State.the-variants as state;
 ghost use Rattle.session.specs.declared.steps.Next.the-variants.{Ends};
 ghost use Rattle.session.specs.declared.state.Send.the-variants as send;
 ghost use Rattle.session.specs.declared.state.Row.the-variants as row;
 ghost use Rattle.session.specs.State.{take};
-ghost use Rattle.session.specs.Steps.{rowAt, sendIn, sendsOf, rowNumbers, sendNumbers, did, fits, neededBy, nextOf, turnOf, turnedBy, course, hasRoom, reportOf, steps, rowsAfter, sendsAfter};
+ghost use Rattle.session.specs.Steps.{rowAt, sendIn, sendsOf, rowNumbers, sendNumbers, did, fits, neededBy, nextOf, turnOf, turnedBy, course, hasRoom, reportOf, steps, rowsAfter, sendsAfter, LaysTurn, LaysRun, LaysSteps};
 
 // A row takes five numbers: its sort, its first and last number, where in the slice its message begins, and how long that is.
 pub const A_ROW: usize = 5;
@@ -35,14 +42,14 @@ pub const A_ROW: usize = 5;
 // A message to send takes four: its kind, its own number, and two values.
 pub const A_SEND: usize = 4;
 
-// The refusal of a message whose Length is right and whose checksum is not.
-const BAD_SUM: u32 = 4;
+// One row and two messages to send.
+const NEEDED: usize = A_ROW + 2 * A_SEND;
 
 // Why a call ended: no whole message was left, which needs so many bytes; a step left the session Down, with this code; or the
 // next step's row or messages to send found no free slot.
 pub enum Ended {
     Short(usize),
-    Down(u32),
+    Down(Code),
     NoSlot,
 }
 
@@ -50,7 +57,7 @@ pub enum Ended {
 // refusal: then nothing was done, and with 11 come the slots that are needed.
 pub struct Done {
     pub session: Session,
-    pub code: u32,
+    pub code: Code,
     pub used: usize,
     pub rows: usize,
     pub sends: usize,
@@ -89,7 +96,7 @@ fn put_row(d: &mut [u32], row: Row, at: usize, size: usize) -> usize
     requires { ⌜ (length (rowNumbers (rowAt at size row)) ≤ length (now d)) × (at ≤ 4294967295) × (size ≤ 4096) ⌝ }
     ensures { λ r. ⌜ (r ≡ length (rowNumbers (rowAt at size row))) × (now (d .exit) ≡ laid (rowNumbers (rowAt at size row)) (now (d .entry))) ⌝ }
 {
-    if sort_number(row) == 0 {
+    if sort_number(row) == ROW_NONE {
         return 0;
     }
     lay_row(d, row, at, size);
@@ -113,7 +120,7 @@ fn put_send(d: &mut [u32], send: Send) -> usize
     requires { ⌜ length (sendNumbers (sendIn send)) ≤ length (now d) ⌝ }
     ensures { λ r. ⌜ (r ≡ length (sendNumbers (sendIn send))) × (now (d .exit) ≡ laid (sendNumbers (sendIn send)) (now (d .entry))) ⌝ }
 {
-    if told(send).kind == 0 {
+    if told(send).kind == SEND_NONE {
         return 0;
     }
     lay_send(d, send);
@@ -134,13 +141,21 @@ fn put_sends(d: &mut [u32], answer: Answer) -> usize
 fn row_room(row: Row) -> usize
     ensures { λ r. ⌜ ((at size : ℕ) → r ≡ length (rowNumbers (rowAt at size row))) × (r ≤ 5) ⌝ }
 {
-    if sort_number(row) == 0 { 0 } else { A_ROW }
+    if sort_number(row) == ROW_NONE {
+        0
+    } else {
+        A_ROW
+    }
 }
 
 fn send_room(send: Send) -> usize
     ensures { λ r. ⌜ (r ≡ length (sendNumbers (sendIn send))) × (r ≤ 4) ⌝ }
 {
-    if told(send).kind == 0 { 0 } else { A_SEND }
+    if told(send).kind == SEND_NONE {
+        0
+    } else {
+        A_SEND
+    }
 }
 
 // Whether what a step gives finds its slots, where so many numbers are free in each list.
@@ -189,7 +204,7 @@ fn used_by(reading: Reading, s: &[u8]) -> usize
     }
 }
 
-fn next_of(state: State, code: u32) -> Next
+fn next_of(state: State, code: Code) -> Next
     ensures { λ r. ⌜ r ≡ nextOf state code ⌝ }
 {
     match state {
@@ -244,15 +259,15 @@ impl Session {
         sends: &mut [u32],
     ) -> Turned
         requires { ⌜ (reading ≡ readOf (now s)) × (self .state ≡ state.Down → ⊥) ⌝ }
-        ensures { λ r. ⌜ (r ≡ turnedBy (turnOf at (length (now (rows .entry))) (length (now (sends .entry))) self (now (s .entry)))) × (now (rows .exit) ≡ laid (rowNumbers (turnOf at (length (now (rows .entry))) (length (now (sends .entry))) self (now (s .entry)) .rows)) (now (rows .entry))) × (now (sends .exit) ≡ laid (sendNumbers (turnOf at (length (now (rows .entry))) (length (now (sends .entry))) self (now (s .entry)) .sends)) (now (sends .entry))) ⌝ }
+        ensures { λ r. ⌜ LaysTurn at self (now (s .entry)) (now (rows .entry)) (now (sends .entry)) r (now (rows .exit)) (now (sends .exit)) ⌝ }
     {
-        let ours = self.ours;
-        let stepped = self.arrived(arrival_by(&ours, s, reading));
+        let stepped = self.step_by(s, reading);
         let session = stepped.session;
         let state = session.state;
         let answer = stepped.answer;
         let row = answer.row;
-        if answer.code == 1 {
+        let code = answer.code;
+        if code.number() == SHORT {
             return self.ends(Ended::Short(needed_by(reading)));
         }
         if !is_fitting(at, rows.len(), sends.len(), answer) {
@@ -266,11 +281,11 @@ impl Session {
             used,
             rows: laid,
             sends: sent,
-            next: next_of(state, answer.code),
+            next: next_of(state, code),
         }
     }
 
-    fn report(self, code: u32, used: usize, rows: usize, sends: usize, ended: Ended) -> Done
+    fn report(self, code: Code, used: usize, rows: usize, sends: usize, ended: Ended) -> Done
         ensures { λ r. ⌜ (r .session ≡ self) × (r .code ≡ code) × (r .used ≡ used) × (r .rows ≡ rows) × (r .sends ≡ sends) × (r .ended ≡ ended) ⌝ }
     {
         Done {
@@ -286,7 +301,7 @@ impl Session {
     // All turns. Business in its turn, which most messages of a day are, is taken at once: the rules would do no more.
     fn run(self, s: &[u8], rows: &mut [u32], sends: &mut [u32]) -> Done
         requires { ⌜ (self .state ≡ state.Down → ⊥) ⌝ }
-        ensures { λ r. ⌜ (r ≡ reportOf 0 (course 0 (length (now (rows .entry))) (length (now (sends .entry))) self (now (s .entry)))) × (now (rows .exit) ≡ laid (rowNumbers (course 0 (length (now (rows .entry))) (length (now (sends .entry))) self (now (s .entry)) .rows)) (now (rows .entry))) × (now (sends .exit) ≡ laid (sendNumbers (course 0 (length (now (rows .entry))) (length (now (sends .entry))) self (now (s .entry)) .sends)) (now (sends .entry))) ⌝ }
+        ensures { λ r. ⌜ LaysRun self (now (s .entry)) (now (rows .entry)) (now (sends .entry)) r (now (rows .exit)) (now (sends .exit)) ⌝ }
     {
         let mut session = self;
         let mut used: usize = 0;
@@ -318,7 +333,7 @@ impl Session {
             match next {
                 Next::On => {}
                 Next::Ends(ended) => return session.report(
-                    0,
+                    Code::Good,
                     used,
                     row_at / A_ROW,
                     send_at / A_SEND,
@@ -331,16 +346,25 @@ impl Session {
     // The messages of s, back to back, each stepped on in turn; their rows at the front of `rows` and their messages to send at
     // the front of `sends`. Refusals, which do nothing: 20, and 11 where not even one row and two messages to send fit.
     pub fn steps(self, s: &[u8], rows: &mut [u32], sends: &mut [u32]) -> Done
-        ensures { λ r. ⌜ (r ≡ steps self (now (s .entry)) (length (now (rows .entry))) (length (now (sends .entry)))) × (now (rows .exit) ≡ rowsAfter self (now (s .entry)) (now (rows .entry)) (now (sends .entry))) × (now (sends .exit) ≡ sendsAfter self (now (s .entry)) (now (rows .entry)) (now (sends .entry))) ⌝ }
+        ensures { λ r. ⌜ LaysSteps self (now (s .entry)) (now (rows .entry)) (now (sends .entry)) r (now (rows .exit)) (now (sends .exit)) ⌝ }
     {
         let state = self.state;
         match state {
-            State::Down => return self.report(20, 0, 0, 0, Ended::Down(20)),
+            State::Down => {
+                let down = Code::Halted(Halt::Down);
+                return self.report(down, 0, 0, 0, Ended::Down(down));
+            }
             State::Waiting => {}
             State::Live => {}
         }
         if !has_room(rows.len(), sends.len()) {
-            return self.report(11, 0, 1, 2, Ended::NoSlot);
+            return self.report(
+                Code::Refused(Refusal::NoRoom(NEEDED)),
+                0,
+                1,
+                2,
+                Ended::NoSlot,
+            );
         }
         self.run(s, rows, sends)
     }

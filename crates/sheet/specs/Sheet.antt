@@ -3,12 +3,13 @@ use Prim.Native.Nat.{ℕ, zero, suc, _+_, _-_}
 use mathlib.Core.Bool.{true, cond}
 use mathlib.Core.List.{List, [], _∷_, _++_}
 use lib.Dec.{eqb, leb, ltb}
-use lib.ListN.{length, take, drop, replicate}
+use lib.ListN.{length, take, drop}
+use Rattle.wire.specs.Spelled.{spelled}
 use Rattle.session.specs.declared.arrival.Content.{Content}
 use Rattle.session.specs.declared.arrival.Content.the-variants as content
 use Rattle.session.specs.declared.arrival.Message.{Message}
 use Rattle.session.specs.declared.state.Session.{Session}
-use Rattle.session.specs.declared.state.State.the-variants.{Waiting}
+use Rattle.session.specs.Day.{fresh, connect}
 use Rattle.session.specs.Rules.{ruled}
 use Rattle.sheet.specs.declared.line.Kind.{Kind}
 use Rattle.sheet.specs.declared.line.Kind.the-variants.{Logon, Business, GapFill, Reset}
@@ -21,9 +22,9 @@ use Rattle.sheet.specs.declared.sheet.Taken.{Taken}
 use Rattle.sheet.specs.Line.{saidOf}
 use Rattle.sheet.specs.Print.{printed, printedBad}
 
--- a Waiting session with E = 1 and O = 2; every line is for it, so its Comp ID is not looked at
+-- a Waiting session with E = 1 and O = 2: a fresh day that has connected. Every line is for it, so its Comp ID, a '-', is not looked at
 unfoldable pub begun : Session
-begun = record { state = Waiting; ours = replicate 12 0; expected = 1; own = 2; ahead = 0 }
+begun = connect (fresh (spelled "-") .session) [] .session
 
 -- a logon's Next Expected is 2
 unfoldable pub contentOf : Kind → ℕ → Content

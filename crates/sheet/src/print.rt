@@ -76,12 +76,13 @@ fn line(d: &mut [u8], t: Stepped) -> usize
     let answer = t.answer;
     let row = answer.row;
     let send = answer.first;
+    let next = session.expected();
     let first = first_of(row);
     let last = last_of(row);
     let p = put_row(d, row);
     let p = put_field(d, p, b" first=", first as u64);
     let p = put_field(d, p, b" last=", last as u64);
-    let p = put_field(d, p, b" next=", session.expected as u64);
+    let p = put_field(d, p, b" next=", next as u64);
     put_out(d, p, send)
 }
 
@@ -95,7 +96,7 @@ fn bad_line(d: &mut [u8], k: u64) -> usize
 }
 
 // The line of a step at the front of a lent buffer.
-pub fn put_printed(d: &mut [u8], t: Stepped) -> Laid
+pub(crate) fn put_printed(d: &mut [u8], t: Stepped) -> Laid
     ensures { λ r. ⌜ (r ≡ laidAnswer (printed t) (now (d .entry))) × (now (d .exit) ≡ laid (printed t) (now (d .entry))) ⌝ }
 {
     let mut text = [0u8; 128];

@@ -8,7 +8,6 @@ use crate::print::put_printed;
 use session::arrival::Content;
 use session::arrival::Message;
 use session::state::Session;
-use session::state::State;
 ghost use mathlib.Core.Path.{_≡_};
 ghost use mathlib.Core.List.{_++_};
 ghost use Prim.Native.Nat.{_≤_};
@@ -32,18 +31,14 @@ pub struct Taken {
     pub end: End,
 }
 
-// The session that daysheet begins with: Waiting, with E = 1 and O = 2.
+// The session that daysheet begins with: Waiting, with E = 1 and O = 2, as a fresh day that has connected.
 pub fn begun() -> Session
     ensures { λ r. ⌜ r ≡ begunSession ⌝ }
 {
-    let ours = [0u8; 12];
-    Session {
-        state: State::Waiting,
-        ours,
-        expected: 1,
-        own: 2,
-        ahead: 0,
-    }
+    let made = Session::fresh(b"-");
+    let down = made.session;
+    let connected = down.connect(b"");
+    connected.session
 }
 
 fn content_of(kind: Kind, new: u32) -> Content

@@ -2,3 +2,4 @@ pub mod Again
 pub mod AmountLaws
 pub mod BehindLaws
 pub mod DigitLaws
+pub mod Shortest

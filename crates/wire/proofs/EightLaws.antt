@@ -1,16 +1,11 @@
 -- Laws of eight bytes at once.
 use mathlib.Core.Path.{_≡_, refl, ap, _∙_}
 use Prim.Native.Nat.{ℕ, zero, suc, _+_, _-_, _*_, _≤_, _<_}
-use native.Mathlib.Nat.{le-of-eq}
 use native.Mathlib.Omega.{arith}
 use mathlib.Core.List.{List}
-use lib.ListN.{length, getD, take, drop, length-drop}
-use lib.Seq.{drop-cons, take-all}
+use lib.ListN.{length, getD, take, drop}
+use lib.Seq.{drop-cons}
 use Rattle.wire.specs.Number.{number}
-
--- the part `&s[i..]`
-pub rest : (s : List ℕ) (i : ℕ) → take (length s - i) (drop i s) ≡ drop i s
-rest s i = take-all (length s - i) (drop i s) (le-of-eq (length-drop i s))
 
 -- n bytes from place i on as a number, each looked at in its place
 abbrev digits : ℕ → ℕ → List ℕ → ℕ

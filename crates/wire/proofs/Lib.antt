@@ -1,3 +1,4 @@
+pub mod TestLaws
 pub mod DecimalLaws
 pub mod LayingLaws
 pub mod MapLaws

@@ -13,12 +13,12 @@ use lib.Count.{under, trailingZeros, trailing-of-zero}
 use lib.Dec.{eqb}
 use lib.ListN.{length, take, drop}
 use lib.Seq.{drop-drop, length-take-le}
-use Rattle.wire.specs.Number.{number}
+use Rattle.wire.specs.Number.{Bytes, number}
 use Rattle.wire.specs.Search.{firstFrom}
 use Rattle.wire.specs.Text.{isCharacter, characters}
-use Rattle.wire.proofs.NumberLaws.{Bytes, bytes-take}
+use Rattle.wire.proofs.NumberLaws.{bytes-take}
 use Rattle.wire.proofs.SearchLaws.{first-before}
-use Rattle.wire.proofs.EightLaws.{rest}
+use Rattle.wire.proofs.TestLaws.{rest-of}
 use Rattle.wire.proofs.TextLaws.{character-range, count-stops, count-goes}
 
 -- One byte c, n times.
@@ -167,7 +167,7 @@ module _ (s : List ℕ) (i w : ℕ) (h : i + characters (drop i s) ≡ character
     (e : trailingZeros 64 w / 8 ≡ characters (take 8 (take (length s - i) (drop i s)))) where
   -- The part that is lent is all that follows.
   marked : trailingZeros 64 w / 8 ≡ characters (take 8 (drop i s))
-  marked = e ∙ ap (λ (t : List ℕ). characters (take 8 t)) (rest s i)
+  marked = e ∙ ap (λ (t : List ℕ). characters (take 8 t)) (rest-of s i)
 
   -- Without a mark the eight are characters.
   pub eight-more : w ≡ 0 → (i + 8) + characters (drop (i + 8) s) ≡ characters s

@@ -17,14 +17,10 @@ use Rattle.wire.specs.declared.text.Null.the-variants.{At, Nowhere}
 use Rattle.wire.specs.declared.text.Text.{Text}
 use Rattle.wire.specs.declared.text.Text.the-variants.{Good, Bad}
 use Rattle.wire.specs.Laying.{laid, laidAnswer}
-use Rattle.wire.specs.Number.{number, numberBytes}
+use Rattle.wire.specs.Number.{Bytes, number, numberBytes}
 use Rattle.wire.specs.Text.{isCharacter, allCharacters, characters, onePast, null, ended, fixedText, variableBody, variableText, charactersOf, fixedPart, variablePart, takes, fixedBytes, variableBytes}
-use Rattle.wire.proofs.NumberLaws.{Bytes, length-numberBytes, number-numberBytes, number-take}
-
--- two tests that passed
-both : (p q : Bool) → cond p q false ≡ true → (p ≡ true) × (q ≡ true)
-both true q h = (refl, h)
-both false q h = let z : _≡_ {A = ℕ} 0 1 = cc in absurd (omega arith)
+use Rattle.wire.proofs.TestLaws.{both}
+use Rattle.wire.proofs.NumberLaws.{length-numberBytes, number-numberBytes, number-take}
 
 -- a character's bounds
 pub character-range : (b : ℕ) → isCharacter b ≡ true → (32 ≤ b) × (b ≤ 126)

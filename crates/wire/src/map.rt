@@ -1,10 +1,15 @@
-// The bits of a presence map: position 0 is the highest bit of the first byte (004 section 6.2.1; document 01,
-// "The frame").
+// The bits of a presence map (004 section 6.2.1; document 01, "The frame"). Document 01 counts a byte's bits from the least
+// significant as 0; a map's positions run the other way, from the highest bit down: place j of a byte is its bit 7 - j.
 ghost use mathlib.Core.Path.{_≡_};
 ghost use Prim.Native.Nat.{_<_};
 ghost use Rattle.wire.specs.Map.{bitAt, nextBit, present, withPosition};
 
-// Whether bit j of a map byte is set, the highest bit being bit 0.
+// A message's map has so many bytes, and so many positions; as a position MAP_POSITIONS is one that no map has.
+pub const MAP_BYTES: usize = 32;
+
+pub const MAP_POSITIONS: usize = 256;
+
+// Whether place j of a map byte is set.
 fn bit_at(byte: u8, j: u8) -> bool
     requires { ⌜ j < 8 ⌝ }
     ensures { λ r. ⌜ r ≡ bitAt byte j ⌝ }
@@ -24,17 +29,18 @@ pub fn is_present(map: &[u8], p: usize) -> bool
     bit_at(byte, (p % 8) as u8)
 }
 
-// The first set bit of a map byte at or after bit `from`, and 8 where there is none.
+// The first set place of a map byte at or after place `from`, and 8 where there is none.
 //
-// The highest bit of a byte is its position 0, so the byte's first set position is the count of the zeros that lead it.
-// The rest of the byte is the byte with every position before `from` cleared. With `from` 2:
+// Place 0 of a byte is its highest bit, so the byte's first set place is the count of the zeros that lead it. The rest of
+// the byte is the byte with every place before `from` cleared. With `from` 2:
 //
-//     position   0 1 2 3 4 5 6 7     from the highest bit down
-//     byte       0 1 0 0 1 0 1 0     positions 1, 4 and 6 are set
-//     kept       0 0 1 1 1 1 1 1     position 2 and those after it
-//     rest       0 0 0 0 1 0 1 0     four zeros lead: the next set position is 4
+//     bit        7 6 5 4 3 2 1 0
+//     place      0 1 2 3 4 5 6 7
+//     byte       0 1 0 0 1 0 1 0     places 1, 4 and 6 are set
+//     kept       0 0 1 1 1 1 1 1     place 2 and those after it
+//     rest       0 0 0 0 1 0 1 0     four zeros lead: the next set place is 4
 //
-// A rest with no set position is eight zeros, and the count is 8. From position 8 on a byte has no rest.
+// A rest with no set place is eight zeros, and the count is 8. From place 8 on a byte has no rest.
 pub fn next_bit(byte: u8, from: u8) -> u8
     ensures { λ r. ⌜ r ≡ nextBit byte from ⌝ }
 {

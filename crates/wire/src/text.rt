@@ -9,8 +9,11 @@ ghost use mathlib.Core.Path.{_≡_};
 ghost use Prim.Native.Nat.{_/_, _≤_, _<_};
 ghost use lib.Count.{trailingZeros};
 ghost use lib.ListN.{length, take, replicate};
-ghost use Rattle.wire.specs.Laying.{laid, laidAnswer};
+ghost use Rattle.wire.specs.Laying.{Lays};
 ghost use Rattle.wire.specs.Text.{isCharacter, allCharacters, characters, null, fixedText, variableText, fixedPart, variablePart, fixedBytes, variableBytes, takes, putFixed, fixedLaid, putVariable, variableLaid};
+
+// No message has more bytes, and the text writer takes no greater width.
+pub const LONGEST: usize = 4096;
 
 // Where a text's null stands, if only characters stand before it.
 enum Null {
@@ -158,7 +161,7 @@ pub fn takes_text(width: usize, t: &[u8]) -> bool
     if width == 0 {
         return false;
     }
-    if 4096 < width {
+    if LONGEST < width {
         return false;
     }
     if width <= t.len() {
@@ -180,7 +183,7 @@ fn clear(d: &mut [u8])
 // Characters and zeros to the width, at the front of a lent buffer.
 fn lay_fixed(d: &mut [u8], width: usize, t: &[u8]) -> Laid
     requires { ⌜ length (now t) ≤ width ⌝ }
-    ensures { λ r. ⌜ (r ≡ laidAnswer (fixedBytes width (now (t .entry))) (now (d .entry))) × (now (d .exit) ≡ laid (fixedBytes width (now (t .entry))) (now (d .entry))) ⌝ }
+    ensures { λ r. ⌜ Lays (fixedBytes width (now (t .entry))) (now (d .entry)) r (now (d .exit)) ⌝ }
 {
     if d.len() < width {
         return Laid::NoRoom(width);
@@ -203,7 +206,7 @@ pub fn put_fixed(d: &mut [u8], width: usize, t: &[u8]) -> Laid
 
 // The fixed text at the front of s laid down anew: its characters, and zeros to the width. A bad text has no characters.
 pub fn copy_fixed(d: &mut [u8], width: usize, s: &[u8]) -> Laid
-    ensures { λ r. ⌜ (r ≡ laidAnswer (fixedBytes width (fixedPart width (now (s .entry)))) (now (d .entry))) × (now (d .exit) ≡ laid (fixedBytes width (fixedPart width (now (s .entry)))) (now (d .entry))) ⌝ }
+    ensures { λ r. ⌜ Lays (fixedBytes width (fixedPart width (now (s .entry)))) (now (d .entry)) r (now (d .exit)) ⌝ }
 {
     lay_fixed(d, width, fixed_part(s, width))
 }
@@ -211,7 +214,7 @@ pub fn copy_fixed(d: &mut [u8], width: usize, s: &[u8]) -> Laid
 // The length of the characters, the null counted, the characters and the null, at the front of a lent buffer.
 fn lay_variable(d: &mut [u8], t: &[u8]) -> Laid
     requires { ⌜ length (now t) < 65535 ⌝ }
-    ensures { λ r. ⌜ (r ≡ laidAnswer (variableBytes (now (t .entry))) (now (d .entry))) × (now (d .exit) ≡ laid (variableBytes (now (t .entry))) (now (d .entry))) ⌝ }
+    ensures { λ r. ⌜ Lays (variableBytes (now (t .entry))) (now (d .entry)) r (now (d .exit)) ⌝ }
 {
     let n = t.len();
     let end = n + 3;
@@ -236,7 +239,7 @@ pub fn put_variable(d: &mut [u8], size: usize, t: &[u8]) -> Laid
 
 // The variable text at the front of s laid down anew. A bad text has no characters.
 pub fn copy_variable(d: &mut [u8], size: usize, s: &[u8]) -> Laid
-    ensures { λ r. ⌜ (r ≡ laidAnswer (variableBytes (variablePart size (now (s .entry)))) (now (d .entry))) × (now (d .exit) ≡ laid (variableBytes (variablePart size (now (s .entry)))) (now (d .entry))) ⌝ }
+    ensures { λ r. ⌜ Lays (variableBytes (variablePart size (now (s .entry)))) (now (d .entry)) r (now (d .exit)) ⌝ }
 {
     lay_variable(d, variable_part(s, size))
 }

@@ -87,7 +87,7 @@ fn say_reading(s: &[u8]) {
     match read(s) {
         Reading::Good { header, length } => {
             say(b"type ");
-            say_number(header.kind as u64);
+            say_number(header.messagetype as u64);
             say(b" number ");
             say_number(header.number as u64);
             say(b" possdup ");
@@ -98,7 +98,7 @@ fn say_reading(s: &[u8]) {
             say_number(length as u64);
             say(b" comp ");
             say(comp_id(s));
-            if header.kind == 10 {
+            if header.messagetype == 10 {
                 say_shares(s);
             }
         }
@@ -339,17 +339,17 @@ fn say_state(state: State) {
 
 // The state, E, O and M.
 fn say_session(s: Session) {
-    let state = s.state;
-    say_state(state);
-    say_pair(s.expected, s.own);
+    say_state(s.state());
+    say_pair(s.expected(), s.own());
     say(b" ");
-    say_number(s.ahead as u64);
+    say_number(s.ahead() as u64);
 }
 
 fn made(m: Made) -> Session {
     let s = m.session;
     say(b"code ");
-    say_number(m.code as u64);
+    let code = m.code;
+    say_number(code.number() as u64);
     say(b": ");
     say_session(s);
     s
@@ -358,7 +358,8 @@ fn made(m: Made) -> Session {
 fn connected(c: Connected) -> Session {
     let s = c.session;
     say(b"code ");
-    say_number(c.code as u64);
+    let code = c.code;
+    say_number(code.number() as u64);
     say(b" logon ");
     say_pair(c.number, c.next);
     say(b": ");
@@ -373,7 +374,8 @@ fn stepped(t: Stepped) -> Session {
     let second = answer.second;
     let row = answer.row;
     say(b"code ");
-    say_number(answer.code as u64);
+    let code = answer.code;
+    say_number(code.number() as u64);
     say(b" send ");
     say_send(first);
     say(b", ");

@@ -10,11 +10,13 @@ use borrow.Author.Tests.{le-leb}
 use lib.ListN.{length, getD, replicate, drop-of-length-le}
 use lib.Seq.{drop-at}
 use Rattle.tables.specs.declared.dictionary.Field.the-variants.{EndSequence, NextExpectedMessageSequence, Password, StartSequence}
-use Rattle.tables.specs.Dictionary.{rowNumber, sortOf, widthOf}
+use Rattle.tables.specs.Dictionary.{entry, rowNumber, sortOf, widthOf}
 use Rattle.tables.specs.Line.{rowAt, isKnown, isRequired}
 use Rattle.tables.specs.Reports.{unionAt}
 use Rattle.tables.specs.Tables.{rowOf, tablesOf}
 use Rattle.tables.specs.Tables as table
+use Rattle.tables.specs.Types.{executionReportType}
+use Rattle.tables.proofs.Types.{within-is-type}
 use Rattle.wire.specs.Map.{withPosition, withBit, bitAt, present}
 use Rattle.wire.specs.Number.{numberBytes}
 use Rattle.wire.specs.Search.{firstFrom}
@@ -65,17 +67,17 @@ module _ (b : ℕ) where
 -- x has a known type, good flags, and a map of the byte b that has the fields it must have and no unknown one; its body is the map's fields,
 -- in `plain` bytes
 pub record Complete (x : Outgoing) (b plain : ℕ) : Type 0 where
-  pub kind : x .head .kind ≤ 10
+  pub messagetype : x .head .messagetype ≤ executionReportType
   pub possdup : x .head .possdup ≤ 1
   pub possresend : x .head .possresend ≤ 1
   pub map : x .map ≡ mapOf b
-  pub known : lowestUnknown (rowOf (x .head .kind)) (mapOf b) ≡ Nowhere
-  pub filled : lowestMissing (rowOf (x .head .kind)) (mapOf b) ≡ Nowhere
-  pub walked : walkFrom (rowOf (x .head .kind)) (positions (mapOf b) 8 0) 0 (x .body) ≡ Done 0 plain
+  pub known : lowestUnknown (rowOf (x .head .messagetype)) (mapOf b) ≡ Nowhere
+  pub filled : lowestMissing (rowOf (x .head .messagetype)) (mapOf b) ≡ Nowhere
+  pub walked : walkFrom (rowOf (x .head .messagetype)) (positions (mapOf b) 8 0) 0 (x .body) ≡ Done 0 plain
   pub short : plain ≤ 4038
 
 module _ {x : Outgoing} {b plain : ℕ} (c : Complete x b plain) where
-  complete-fields : vetFields (rowOf (x .head .kind)) (x .map) (x .body) ≡ vetted.Good plain
+  complete-fields : vetFields (rowOf (x .head .messagetype)) (x .map) (x .body) ≡ vetted.Good plain
   unfolding vetFields vetUnknown vetMissing vetWalk walkOf walkFrom cut
   complete-fields = rw (c .map, c .known, c .filled, first-byte b, c .walked)
 
@@ -86,7 +88,7 @@ module _ {x : Outgoing} {b plain : ℕ} (c : Complete x b plain) where
   complete-sent compId d h g r =
       let s : 58 + plain ≤ 4096 = omega (arith, c .short) in
       rw (
-        le-leb (x .head .kind) 10 (c .kind),
+        within-is-type (x .head .messagetype) (c .messagetype),
         le-leb 1 (x .head .number) h,
         le-leb (x .head .possdup) 1 (c .possdup),
         le-leb (x .head .possresend) 1 (c .possresend),
@@ -107,12 +109,12 @@ walk-two rows p q j k u v l m a b =
 -- a Logon whose password the text writer takes
 module _ (number : ℕ) (password : List ℕ) (next : ℕ) where
   logon-places : positions (mapOf 160) 8 0 ≡ positionOf (rowOf 5) Password ∷ positionOf (rowOf 5) NextExpectedMessageSequence ∷ []
-  unfolding positions present bitAt positionOf standsAt isRowOf rowNumber firstFrom rowAt rowOf tablesOf unionAt table.logon
+  unfolding positions present bitAt positionOf standsAt isRowOf entry rowNumber firstFrom rowAt rowOf tablesOf unionAt table.logon
   logon-places = refl
 
   logon-checks : (s : List ℕ) → (checkRow (rowOf 5 (positionOf (rowOf 5) Password)) s ≡ fixed (widthOf (sortOf Password)) s)
       × (checkRow (rowOf 5 (positionOf (rowOf 5) NextExpectedMessageSequence)) (numberBytes 4 next) ≡ Good 4 4)
-  unfolding positionOf standsAt isRowOf rowNumber firstFrom rowAt rowOf tablesOf unionAt table.logon checkRow checkSort sortOf widthOf whole numberBytes
+  unfolding positionOf standsAt isRowOf entry rowNumber firstFrom rowAt rowOf tablesOf unionAt table.logon checkRow checkSort sortOf widthOf whole numberBytes
   logon-checks s = (refl, refl)
 
   module _ (h : takes (widthOf (sortOf Password)) password ≡ true) where
@@ -128,9 +130,9 @@ module _ (number : ℕ) (password : List ℕ) (next : ℕ) where
         (logon-checks (u ++ v) .0 ∙ ap fixedTaken (fixed-again w password v h)) (logon-checks v .1)
 
     pub logon-complete : Complete (logon number password next) 160 454
-    unfolding mapWith withPosition withBit bitAt positionOf standsAt isRowOf rowNumber firstFrom rowAt rowOf tablesOf unionAt table.logon lowestUnknown lowestMissing lowest placeOf unknownAt unknownTo missingAt isKnown isRequired present sortOf widthOf
+    unfolding mapWith withPosition withBit bitAt positionOf standsAt isRowOf entry rowNumber firstFrom rowAt rowOf tablesOf unionAt table.logon lowestUnknown lowestMissing lowest placeOf unknownAt unknownTo missingAt isKnown isRequired present sortOf widthOf
     logon-complete =
-        record { kind = omega arith; possdup = omega arith; possresend = omega arith; map = refl; known = refl; filled = refl; walked = logon-walk; short = omega arith }
+        record { messagetype = omega arith; possdup = omega arith; possresend = omega arith; map = refl; known = refl; filled = refl; walked = logon-walk; short = omega arith }
 
 -- every message but the Logon
 module _ (number : ℕ) where
@@ -141,14 +143,14 @@ module _ (number : ℕ) where
       × Complete (testRequest number id) 128 2
       × Complete (resendRequest number start end) 192 8
       × Complete (gapFill number new) 192 5
-  unfolding mapWith withPosition withBit bitAt positionOf standsAt isRowOf rowNumber firstFrom rowAt rowOf tablesOf unionAt table.heartbeat table.testRequest table.resendRequest table.sequenceReset table.logout lowestUnknown lowestMissing lowest placeOf unknownAt unknownTo missingAt isKnown isRequired present walkFrom walkThrough cutAt extentOf extent positions onward checkRow checkSort whole yesNo sortOf numberBytes
+  unfolding mapWith withPosition withBit bitAt positionOf standsAt isRowOf entry rowNumber firstFrom rowAt rowOf tablesOf unionAt table.heartbeat table.testRequest table.resendRequest table.sequenceReset table.logout lowestUnknown lowestMissing lowest placeOf unknownAt unknownTo missingAt isKnown isRequired present walkFrom walkThrough cutAt extentOf extent positions onward checkRow checkSort whole yesNo sortOf numberBytes
   computed id start end new = (
-    record { kind = omega arith; possdup = omega arith; possresend = omega arith; map = refl; known = refl; filled = refl; walked = refl; short = omega arith },
-    record { kind = omega arith; possdup = omega arith; possresend = omega arith; map = refl; known = refl; filled = refl; walked = refl; short = omega arith },
-    record { kind = omega arith; possdup = omega arith; possresend = omega arith; map = refl; known = refl; filled = refl; walked = refl; short = omega arith },
-    record { kind = omega arith; possdup = omega arith; possresend = omega arith; map = refl; known = refl; filled = refl; walked = refl; short = omega arith },
-    record { kind = omega arith; possdup = omega arith; possresend = omega arith; map = refl; known = refl; filled = refl; walked = refl; short = omega arith },
-    record { kind = omega arith; possdup = omega arith; possresend = omega arith; map = refl; known = refl; filled = refl; walked = refl; short = omega arith },
+    record { messagetype = omega arith; possdup = omega arith; possresend = omega arith; map = refl; known = refl; filled = refl; walked = refl; short = omega arith },
+    record { messagetype = omega arith; possdup = omega arith; possresend = omega arith; map = refl; known = refl; filled = refl; walked = refl; short = omega arith },
+    record { messagetype = omega arith; possdup = omega arith; possresend = omega arith; map = refl; known = refl; filled = refl; walked = refl; short = omega arith },
+    record { messagetype = omega arith; possdup = omega arith; possresend = omega arith; map = refl; known = refl; filled = refl; walked = refl; short = omega arith },
+    record { messagetype = omega arith; possdup = omega arith; possresend = omega arith; map = refl; known = refl; filled = refl; walked = refl; short = omega arith },
+    record { messagetype = omega arith; possdup = omega arith; possresend = omega arith; map = refl; known = refl; filled = refl; walked = refl; short = omega arith },
   )
 
 -- the map of a Resend Request: C0 and zeros

@@ -18,14 +18,15 @@ use Rattle.tables.specs.Tables.{rowOf}
 use Rattle.fields.specs.Plain.{plainFields}
 use Rattle.fields.specs.Walk.{walkOf}
 use Rattle.fields.specs.Words.{ClearFrom}
-use Rattle.fields.proofs.WalkLaws.{rest-of}
+use Rattle.wire.proofs.TestLaws.{rest-of}
 use Rattle.message.specs.declared.frame.Header.{Header}
 use Rattle.message.specs.declared.refusal.Refusal.{Refusal}
 use Rattle.message.specs.declared.refusal.Refusal.the-variants.{NoRoom, TooLong}
 use Rattle.message.specs.declared.vet.Vetted.{Vetted}
 use Rattle.message.specs.declared.vet.Vetted.the-variants as vetted
 use Rattle.message.specs.Vet.{goodCompId, goodHeader, vet}
-use Rattle.message.proofs.VetLaws.{passed, good-low, GoodMessage, good-vetted}
+use Rattle.wire.proofs.TestLaws.{passed}
+use Rattle.message.proofs.VetLaws.{good-low, GoodMessage, good-vetted}
 use Rattle.writer.specs.declared.write.Written.{Written}
 use Rattle.writer.specs.declared.write.Written.the-variants.{Wrote, Refused}
 use Rattle.writer.specs.Plain.{headBytes, sealed, messageBytes, plainMessage}
@@ -120,13 +121,13 @@ module _ (h : Header) (compId m body d : List ℕ) where
     vetted-text = header-good h compId (vet-good .header) .text
 
     pub vetted-low : ClearFrom 64 m
-    vetted-low = good-low (h .kind) m body plain (vet-good .fields)
+    vetted-low = good-low (h .messagetype) m body plain (vet-good .fields)
 
-    pub vetted-length : length (plainFields (rowOf (h .kind)) m body) ≡ plain
-    vetted-length = fields-length (rowOf (h .kind)) m body 0 plain (vet-good .fields .walked)
+    pub vetted-length : length (plainFields (rowOf (h .messagetype)) m body) ≡ plain
+    vetted-length = fields-length (rowOf (h .messagetype)) m body 0 plain (vet-good .fields .walked)
 
     -- the rest x of a buffer from byte 54 on has room for the fields
-    pub vetted-room : (x : List ℕ) → 58 + plain ≤ length x → length (plainFields (rowOf (h .kind)) m body) ≤ length (take (length x - 54) (drop 54 x))
+    pub vetted-room : (x : List ℕ) → 58 + plain ≤ length x → length (plainFields (rowOf (h .messagetype)) m body) ≤ length (take (length x - 54) (drop 54 x))
     vetted-room x r = rw (rest-of x 54, length-drop) (omega (arith, vetted-length))
 
     by-length : writeOf h compId m body d ≡ writeLength (58 + plain) (length d)
@@ -160,7 +161,7 @@ module _ (h : Header) (compId m body d : List ℕ) where
       unfolding writeLength afterWriting plainMessage
       write-done l r x q =
           let n : length (plainMessage h compId m body) ≡ 58 + plain =
-          length-message h compId m (plainFields (rowOf (h .kind)) m body) vetted-text l ∙ ap (λ (k : ℕ). 58 + k) vetted-length in
+          length-message h compId m (plainFields (rowOf (h .messagetype)) m body) vetted-text l ∙ ap (λ (k : ℕ). 58 + k) vetted-length in
           answered (Wrote (58 + plain)) (rw (le-leb (58 + plain) 4096 short, le-leb (58 + plain) (length d) r)) x
           (q ∙ laid-there (plainMessage h compId m body) d (omega arith)
           ∙ ap (λ (k : ℕ). plainMessage h compId m body ++ drop k d) n)

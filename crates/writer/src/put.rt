@@ -9,7 +9,17 @@ use fields::cut::head;
 use fields::plain::copy_decimal;
 use fields::plain::copy_number;
 use fields::plain::copy_other;
+use message::frame::COMP_ID_AT;
+use message::frame::COMP_ID_BYTES;
 use message::frame::Header;
+use message::frame::LENGTH_AT;
+use message::frame::MAP_AT;
+use message::frame::NUMBER_AT;
+use message::frame::POSS_DUP_AT;
+use message::frame::POSS_RESEND_AT;
+use message::frame::STX;
+use message::frame::SUM_BYTES;
+use message::frame::TYPE_AT;
 use wire::number::put_u8;
 use wire::number::put_u16;
 use wire::number::put_u32;
@@ -23,24 +33,27 @@ ghost use Prim.Native.Nat.{_-_, _≤_};
 ghost use lib.ListN.{length, take};
 ghost use Rattle.tables.specs.Tables.{rowOf};
 ghost use Rattle.wire.specs.Laying.{laid};
+ghost use Rattle.wire.specs.Map.{mapBytes};
 ghost use Rattle.wire.specs.Text.{takes};
+ghost use Rattle.fields.specs.Cut.{headPositions};
 ghost use Rattle.fields.specs.Plain.{plainFields};
 ghost use Rattle.fields.specs.Words.{ClearFrom};
+ghost use Rattle.message.specs.Frame.{compIdAt, bodyAt, compIdBytes, sumBytes};
 ghost use Rattle.writer.specs.Plain.{headBytes, sealed};
 ghost use Rattle.writer.specs.Put.{valueBytes};
 
-// All fields of a body, each in plain form behind the last, where there is room for them and no position from 64 on is set. The
+// All fields of a body, each in plain form behind the last, where there is room for them and no position behind the map's head is set. The
 // positions still to come are a word, and the body's bytes from the next field on are `rest`.
-pub(crate) fn put_fields(d: &mut [u8], kind: u8, map: &[u8], body: &[u8])
-    requires { ⌜ (8 ≤ length (now map)) × ClearFrom 64 (now map) × (length (plainFields (rowOf kind) (now map) (now body)) ≤ length (now d)) ⌝ }
-    ensures { λ _. ⌜ now (d .exit) ≡ laid (plainFields (rowOf kind) (now (map .entry)) (now (body .entry))) (now (d .entry)) ⌝ }
+pub(crate) fn put_fields(d: &mut [u8], messagetype: u8, map: &[u8], body: &[u8])
+    requires { ⌜ (8 ≤ length (now map)) × ClearFrom headPositions (now map) × (length (plainFields (rowOf messagetype) (now map) (now body)) ≤ length (now d)) ⌝ }
+    ensures { λ _. ⌜ now (d .exit) ≡ laid (plainFields (rowOf messagetype) (now (map .entry)) (now (body .entry))) (now (d .entry)) ⌝ }
 {
     let mut at: usize = 0;
     let mut rest = body;
     let mut left = head(map);
     while left != 0 {
         let p = u64::leading_zeros(left) as usize;
-        match shape_at(kind, p) {
+        match shape_at(messagetype, p) {
             Shape::Number(width) => {
                 let laid = copy_number(&mut d[at..], width, rest);
                 at += laid.besides();
@@ -60,9 +73,9 @@ pub(crate) fn put_fields(d: &mut [u8], kind: u8, map: &[u8], body: &[u8])
                 rest = next;
             }
             Shape::Other => {
-                let laid = copy_other(&mut d[at..], kind, p, rest);
+                let laid = copy_other(&mut d[at..], messagetype, p, rest);
                 at += laid.besides();
-                let next = behind(rest, extent_at(kind, p, rest));
+                let next = behind(rest, extent_at(messagetype, p, rest));
                 rest = next;
             }
         }
@@ -72,20 +85,20 @@ pub(crate) fn put_fields(d: &mut [u8], kind: u8, map: &[u8], body: &[u8])
 
 // Start, Length, Type, Sequence number, PossDup, PossResend.
 fn put_values(d: &mut [u8], n: u16, header: Header)
-    requires { ⌜ 10 ≤ length (now d) ⌝ }
+    requires { ⌜ compIdAt ≤ length (now d) ⌝ }
     ensures { λ _. ⌜ now (d .exit) ≡ laid (valueBytes n header) (now (d .entry)) ⌝ }
 {
-    put_u8(d, 2);
-    put_u16(&mut d[1..], n);
-    put_u8(&mut d[3..], header.kind);
-    put_u32(&mut d[4..], header.number);
-    put_u8(&mut d[8..], header.possdup);
-    put_u8(&mut d[9..], header.possresend);
+    put_u8(d, STX);
+    put_u16(&mut d[LENGTH_AT..], n);
+    put_u8(&mut d[TYPE_AT..], header.messagetype);
+    put_u32(&mut d[NUMBER_AT..], header.number);
+    put_u8(&mut d[POSS_DUP_AT..], header.possdup);
+    put_u8(&mut d[POSS_RESEND_AT..], header.possresend);
 }
 
 // The map, eight bytes at a time.
 fn put_map(d: &mut [u8], map: &[u8])
-    requires { ⌜ (32 ≤ length (now d)) × (length (now map) ≡ 32) ⌝ }
+    requires { ⌜ (mapBytes ≤ length (now d)) × (length (now map) ≡ mapBytes) ⌝ }
     ensures { λ _. ⌜ now (d .exit) ≡ laid (now (map .entry)) (now (d .entry)) ⌝ }
 {
     put_u64(d, read_eight(map));
@@ -94,22 +107,22 @@ fn put_map(d: &mut [u8], map: &[u8])
     put_u64(&mut d[24..], read_eight(&map[24..]));
 }
 
-// The 54 bytes before the fields of a message of n bytes.
+// The bytes before the fields of a message of n bytes.
 pub(crate) fn put_head(d: &mut [u8], n: u16, header: Header, comp: &[u8], map: &[u8])
-    requires { ⌜ (54 ≤ length (now d)) × (takes 12 (now comp) ≡ true) × (length (now map) ≡ 32) ⌝ }
+    requires { ⌜ (bodyAt ≤ length (now d)) × (takes compIdBytes (now comp) ≡ true) × (length (now map) ≡ mapBytes) ⌝ }
     ensures { λ _. ⌜ now (d .exit) ≡ laid (headBytes n header (now (comp .entry)) (now (map .entry))) (now (d .entry)) ⌝ }
 {
     put_values(d, n, header);
-    put_fixed(&mut d[10..], 12, comp);
-    put_map(&mut d[22..], map);
+    put_fixed(&mut d[COMP_ID_AT..], COMP_ID_BYTES, comp);
+    put_map(&mut d[MAP_AT..], map);
 }
 
-// The checksum over the first n - 4 bytes, behind them.
+// The checksum over a message's bytes before it, behind them.
 pub(crate) fn put_sum(d: &mut [u8], n: usize)
-    requires { ⌜ (4 ≤ n) × (n ≤ length (now d)) ⌝ }
-    ensures { λ _. ⌜ now (d .exit) ≡ laid (sealed (take (n - 4) (now (d .entry)))) (now (d .entry)) ⌝ }
+    requires { ⌜ (sumBytes ≤ n) × (n ≤ length (now d)) ⌝ }
+    ensures { λ _. ⌜ now (d .exit) ≡ laid (sealed (take (n - sumBytes) (now (d .entry)))) (now (d .entry)) ⌝ }
 {
-    let end = n - 4;
+    let end = n - SUM_BYTES;
     let sum = crc32c(&d[..end]);
     put_u32(&mut d[end..], sum);
 }

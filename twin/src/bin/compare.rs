@@ -17,15 +17,14 @@ use std::time::{Duration, Instant};
 use twin::make::{self, Event, Rng};
 use twin::reader::{self, Head, A_FIELD};
 use twin::reports::LIST;
-use twin::session::{self, Ended, Phase, RowSort, A_ROW, A_SEND, LAST};
-use twin::session::{ROWS_A_STEP, ROW_PLACE, SENDS_A_STEP};
-use twin::tables;
+use twin::session::{self, Ended, Phase, RowSort, A_ROW, A_SEND, LAST, NOT_A_SEND};
+use twin::session::{LAST_KIND, ROWS_A_STEP, ROW_PLACE, SENDS_A_STEP};
+use twin::tables::{self, types};
 use twin::wire::{self, Refusal, BODY_AT, MAP_WIDTH, TRAILER};
 use twin::writer::{self, HeadValues};
 use twin::{crc, daysheet, plain, plan};
 
 const NOT_A_SESSION: u32 = 90;
-const NOT_A_SEND: u32 = 91;
 
 /// A few differences tell enough; then the run ends.
 const ENOUGH: u32 = 10;
@@ -33,7 +32,7 @@ const ENOUGH: u32 = 10;
 // ---- Counting ----
 
 /// The categories, with their parts of a hundred of the random comparisons.
-const CATEGORIES: [(&str, u64); 11] = [
+const CATEGORIES: [(&str, u64); 12] = [
     ("short inputs", 7),
     ("valid messages", 27),
     ("writes, good and bad", 7),
@@ -44,6 +43,7 @@ const CATEGORIES: [(&str, u64); 11] = [
     ("crc32c", 1),
     ("decimals as text", 1),
     ("many messages in one call", 14),
+    ("version", 0),
     ("daysheet", 0),
 ];
 
@@ -176,7 +176,7 @@ fn reading(answer: Result<Head, Refusal>) -> Reading {
         Ok(head) => Reading {
             number: head.number,
             length: head.length,
-            kind: head.kind,
+            message_type: head.message_type,
             possdup: head.poss_dup,
             possresend: head.poss_resend,
             ..Reading::default()
@@ -290,17 +290,6 @@ fn written(answer: Result<usize, Refusal>) -> Written {
     }
 }
 
-/// The bytes of a message to send, laid into a buffer.
-fn lay(bytes: Result<Vec<u8>, Refusal>, out: &mut [u8]) -> Written {
-    written(bytes.and_then(|bytes| {
-        if bytes.len() > out.len() {
-            return Err(wire::refuse(wire::NO_ROOM, bytes.len()));
-        }
-        out[..bytes.len()].copy_from_slice(&bytes);
-        Ok(bytes.len())
-    }))
-}
-
 fn struct_of(session: &session::Session) -> proved::Session {
     let mut comp_id = [0; 12];
     comp_id[..session.comp_id.len()].copy_from_slice(&session.comp_id);
@@ -384,13 +373,14 @@ fn dropped(s: proved::Session) -> Made {
 }
 
 fn connected(s: proved::Session, password: &[u8]) -> Connected {
-    let unchanged = |refusal| Connected {
+    let unchanged = |refusal, besides| Connected {
         refusal,
         session: s,
+        besides,
         ..Connected::default()
     };
     let mut session = match session_of(&s) {
-        None => return unchanged(NOT_A_SESSION),
+        None => return unchanged(NOT_A_SESSION, 0),
         Some(session) => session,
     };
     match session.connect(password) {
@@ -399,48 +389,30 @@ fn connected(s: proved::Session, password: &[u8]) -> Connected {
             session: struct_of(&session),
             number: logon.number,
             next: logon.next_expected,
+            besides: 0,
         },
-        Err(refusal) => unchanged(refusal.number),
+        Err(refusal) => unchanged(refusal.number, refusal.besides as usize),
     }
 }
 
-fn send_struct(send: session::Send) -> Send {
-    let of = |kind, number, first, second| Send {
+/// A message to send by the numbers of a list, which are the struct's members in
+/// their order.
+fn send_struct([kind, number, first, second]: [u32; A_SEND]) -> Send {
+    Send {
         kind,
         number,
         first,
         second,
-    };
-    match send {
-        session::Send::None => Send::default(),
-        session::Send::Heartbeat { number, id } => of(1, number, u32::from(id), 0),
-        session::Send::Logout { number } => of(2, number, 0, 0),
-        session::Send::GapFill { first, new } => of(3, first, new, 0),
-        session::Send::ResendRequest { number, start, end } => of(4, number, start, end),
     }
 }
 
-/// The twin's message for a struct; None where no session gives such a one.
-fn send_of(send: Send) -> Option<session::Send> {
-    let number = send.number;
-    Some(match send.kind {
-        0 => session::Send::None,
-        1 => session::Send::Heartbeat {
-            number,
-            id: u16::try_from(send.first).ok()?,
-        },
-        2 => session::Send::Logout { number },
-        3 => session::Send::GapFill {
-            first: number,
-            new: send.first,
-        },
-        4 => session::Send::ResendRequest {
-            number,
-            start: send.first,
-            end: send.second,
-        },
-        _ => return None,
-    })
+fn numbers_of(send: Send) -> [u32; A_SEND] {
+    [send.kind, send.number, send.first, send.second]
+}
+
+/// The struct of the twin's message; all its members are 0 where there is none.
+fn shown_send(send: session::Send) -> Send {
+    send_struct(send.numbers().unwrap_or_default())
 }
 
 fn row_struct(row: session::Row) -> Row {
@@ -472,10 +444,11 @@ fn stepped(s: proved::Session, bytes: &[u8]) -> Stepped {
     Stepped {
         refusal: answer.code,
         session: struct_of(&session),
-        first: send_struct(answer.sends[0]),
-        second: send_struct(answer.sends[1]),
+        first: shown_send(answer.sends[0]),
+        second: shown_send(answer.sends[1]),
         row: row_struct(answer.row),
         used: session::used(answer.code, bytes),
+        besides: answer.besides as usize,
     }
 }
 
@@ -597,12 +570,7 @@ fn hold_write(tally: &mut Tally, given: &ToWrite, room: usize) {
         map,
         body,
     } = given;
-    let header = Header {
-        kind: head.kind,
-        possdup: head.poss_dup,
-        possresend: head.poss_resend,
-        number: head.number,
-    };
+    let header = Header::from(*head);
     hold_written(
         tally,
         room,
@@ -660,10 +628,9 @@ fn hold_saved(tally: &mut Tally, comp_id: &[u8], e: u32, o: u32) -> proved::Sess
 }
 
 fn hold_put(tally: &mut Tally, s: proved::Session, send: Send, room: usize) {
-    let twin = |out: &mut [u8]| match (session_of(&s), send_of(send)) {
-        (None, _) => refused(NOT_A_SESSION),
-        (_, None) => refused(NOT_A_SEND),
-        (Some(session), Some(send)) => lay(send.bytes(&session.comp_id), out),
+    let twin = |out: &mut [u8]| match session_of(&s) {
+        None => refused(NOT_A_SESSION),
+        Some(session) => written(session.put(numbers_of(send), out)),
     };
     hold_written(
         tally,
@@ -674,34 +641,23 @@ fn hold_put(tally: &mut Tally, s: proved::Session, send: Send, room: usize) {
     );
 }
 
-fn hold_put_logon(
-    tally: &mut Tally,
-    s: proved::Session,
-    number: u32,
-    password: &[u8],
-    next: u32,
-    room: usize,
-) {
+fn hold_put_logon(tally: &mut Tally, s: proved::Session, password: &[u8], room: usize) {
     let twin = |out: &mut [u8]| match session_of(&s) {
         None => refused(NOT_A_SESSION),
-        Some(session) => lay(writer::logon(number, &session.comp_id, password, next), out),
+        Some(session) => written(session.put_logon(password, out)),
     };
     hold_written(
         tally,
         room,
         twin,
-        |out| proved::put_logon(out, s, number, password, next),
-        || {
-            format!(
-                "put_logon {} number {} password {} next {}",
-                shown(&s),
-                number,
-                hex(password),
-                next
-            )
-        },
+        |out| proved::put_logon(out, s, password),
+        || format!("put_logon {} password {}", shown(&s), hex(password)),
     );
 }
+
+/// How many bytes every Logon has that a session sends.
+const LOGON_LENGTH: usize =
+    BODY_AT + tables::PASSWORD.width + tables::NEXT_EXPECTED.width + TRAILER;
 
 // ---- Short inputs ----
 
@@ -773,7 +729,7 @@ fn to_write(bytes: &[u8]) -> Option<ToWrite> {
     map.copy_from_slice(reader::map(bytes));
     Some(ToWrite {
         head: HeadValues {
-            kind: head.kind,
+            message_type: head.message_type,
             number: head.number,
             poss_dup: head.poss_dup,
             poss_resend: head.poss_resend,
@@ -798,12 +754,12 @@ fn written_length(given: &ToWrite) -> usize {
 }
 
 fn valid_messages(tally: &mut Tally, rng: &mut Rng, until: u64) {
-    let mut kind = 0;
+    let mut message_type = 0;
     while tally.count() < until {
         let comp_id = make::comp_id(rng);
         let number = message_number(rng);
-        let mut bytes = make::message(rng, kind, number, &comp_id);
-        kind = (kind + 1) % 11;
+        let mut bytes = make::message(rng, message_type, number, &comp_id);
+        message_type = (message_type + 1) % types::COUNT as u8;
         let given = to_write(&bytes).expect("the maker makes good messages");
         if rng.chance(20) {
             let more = rng.index(70);
@@ -835,11 +791,11 @@ fn writes(tally: &mut Tally, rng: &mut Rng, until: u64) {
     while tally.count() < until {
         let comp_id = make::comp_id(rng);
         let number = message_number(rng);
-        let kind = rng.below(11) as u8;
-        let (map, body) = make::map_and_body(rng, kind, &[]);
+        let message_type = make::message_type(rng);
+        let (map, body) = make::map_and_body(rng, message_type, &[]);
         let mut given = ToWrite {
             head: HeadValues {
-                kind,
+                message_type,
                 number,
                 poss_dup: rng.below(2) as u8,
                 poss_resend: rng.below(2) as u8,
@@ -866,8 +822,8 @@ fn writes(tally: &mut Tally, rng: &mut Rng, until: u64) {
 
 fn fault(rng: &mut Rng, given: &mut ToWrite) {
     match rng.below(10) {
-        0 => given.head.kind = 8 + rng.below(6) as u8,
-        1 => given.head.kind = rng.byte(),
+        0 => given.head.message_type = 8 + rng.below(6) as u8,
+        1 => given.head.message_type = rng.byte(),
         2 => given.head.number = 0,
         3 => given.head.poss_dup = rng.byte(),
         4 => given.head.poss_resend = rng.byte() % 4,
@@ -907,9 +863,9 @@ fn odd_comp_id(rng: &mut Rng) -> Vec<u8> {
 // ---- Damage ----
 
 /// The shortest of a few random messages of a type, and the longest.
-fn short_and_long(rng: &mut Rng, kind: u8) -> (Vec<u8>, Vec<u8>) {
+fn short_and_long(rng: &mut Rng, message_type: u8) -> (Vec<u8>, Vec<u8>) {
     let mut all: Vec<Vec<u8>> = (0..40)
-        .map(|_| make::message(rng, kind, 7, b"RECORDER01"))
+        .map(|_| make::message(rng, message_type, 7, b"RECORDER01"))
         .collect();
     all.sort_by_key(Vec::len);
     (all[0].clone(), all[39].clone())
@@ -935,7 +891,9 @@ fn every_damage(
 }
 
 fn damage(tally: &mut Tally, rng: &mut Rng, until: u64) {
-    let both: Vec<_> = (0..11).map(|kind| short_and_long(rng, kind)).collect();
+    let both: Vec<_> = (0..=types::LAST)
+        .map(|message_type| short_and_long(rng, message_type))
+        .collect();
     for (short, _) in &both {
         every_damage(tally, short, false, hold_read);
         let of_lists = list_rooms(rng, short);
@@ -947,7 +905,7 @@ fn damage(tally: &mut Tally, rng: &mut Rng, until: u64) {
             }
         });
     }
-    let (_, long_report) = &both[10];
+    let (_, long_report) = &both[usize::from(types::EXECUTION_REPORT)];
     every_damage(tally, long_report, false, hold_read);
     let of_lists = list_rooms(rng, long_report);
     every_damage(tally, long_report, true, |tally, bytes| {
@@ -958,9 +916,9 @@ fn damage(tally: &mut Tally, rng: &mut Rng, until: u64) {
     let until = tally.count() + until;
     while tally.count() < until {
         let comp_id = make::comp_id(rng);
-        let kind = rng.below(11) as u8;
+        let message_type = make::message_type(rng);
         let number = message_number(rng);
-        let whole = make::message(rng, kind, number, &comp_id);
+        let whole = make::message(rng, message_type, number, &comp_id);
         let bytes = make::spoil(rng, &whole);
         hold_read(tally, &bytes);
         hold_parts(tally, &bytes);
@@ -982,7 +940,7 @@ fn damage(tally: &mut Tally, rng: &mut Rng, until: u64) {
             map.copy_from_slice(&bytes[wire::MAP_AT..BODY_AT]);
             let given = ToWrite {
                 head: HeadValues {
-                    kind: bytes[3],
+                    message_type: bytes[3],
                     number: number.max(1),
                     poss_dup: 0,
                     poss_resend: 1,
@@ -1022,6 +980,7 @@ fn histories(tally: &mut Tally, rng: &mut Rng, until: u64) {
                 // Calls beside the history: what they give is not kept.
                 hold_connect(tally, s, &odd_password(rng));
                 hold_drop(tally, s);
+                hold_put_logon(tally, s, &odd_password(rng), logon_room(rng));
             }
             match event {
                 Event::Drop => s = hold_drop(tally, s),
@@ -1031,10 +990,8 @@ fn histories(tally: &mut Tally, rng: &mut Rng, until: u64) {
                     if answer.refusal != 0 {
                         continue;
                     }
-                    let (number, next) = (answer.number, answer.next);
-                    let length = BODY_AT + tables::PASSWORD.width + 4 + TRAILER;
-                    for room in rooms(rng, length) {
-                        hold_put_logon(tally, s, number, &password, next, room);
+                    for room in rooms(rng, LOGON_LENGTH) {
+                        hold_put_logon(tally, s, &password, room);
                     }
                 }
                 Event::Lend(bytes) => {
@@ -1057,10 +1014,13 @@ fn histories(tally: &mut Tally, rng: &mut Rng, until: u64) {
 
 /// How many bytes a message to send has; 0 where there are none.
 fn length_of(s: &proved::Session, send: Send) -> usize {
-    match (session_of(s), send_of(send)) {
-        (Some(session), Some(send)) => send.bytes(&session.comp_id).map_or(0, |bytes| bytes.len()),
-        _ => 0,
-    }
+    let put = |session: session::Session| session.put(numbers_of(send), &mut [0; wire::MOST]);
+    session_of(s).map_or(0, |session| put(session).unwrap_or(0))
+}
+
+/// Room for a Logon, or one byte less, or some more.
+fn logon_room(rng: &mut Rng) -> usize {
+    rooms(rng, LOGON_LENGTH)[rng.index(3)]
 }
 
 // ---- Sessions that no day has ----
@@ -1130,25 +1090,121 @@ fn any_struct(rng: &mut Rng) -> proved::Session {
     s
 }
 
-/// A message to send, or what no session gives.
+/// Both sides of every bound of what a message to send may hold, the highest ID's
+/// among them.
+const EDGES: [u32; 10] = [
+    0,
+    1,
+    2,
+    3,
+    u16::MAX as u32 - 1,
+    u16::MAX as u32,
+    u16::MAX as u32 + 1,
+    LAST - 2,
+    LAST - 1,
+    LAST,
+];
+
+/// A message to send that some session gives.
+fn some_send(rng: &mut Rng) -> session::Send {
+    let number = rng.any_u32().clamp(2, LAST - 1);
+    let start = rng.any_u32().clamp(1, LAST - 1);
+    match rng.below(5) {
+        0 => session::Send::None,
+        1 => session::Send::Heartbeat {
+            number,
+            id: rng.value(2) as u16,
+        },
+        2 => session::Send::Logout { number },
+        3 => session::Send::GapFill {
+            first: start,
+            new: rng.any_u32().max(start + 1),
+        },
+        _ => session::Send::ResendRequest {
+            number,
+            start,
+            end: 0,
+        },
+    }
+}
+
+/// A message to send, in half of the cases with one member made another, so that
+/// no session may give it.
 fn any_send(rng: &mut Rng) -> Send {
-    Send {
-        kind: match rng.below(12) {
-            0 => rng.draw() as u32,
-            1 => 5,
-            _ => rng.below(5) as u32,
-        },
-        number: rng.any_u32(),
-        first: match rng.below(4) {
-            0 => rng.any_u32(),
-            1 => 65_534 + rng.below(4) as u32,
-            _ => rng.below(65_536) as u32,
-        },
-        second: rng.any_u32(),
+    let mut send = shown_send(some_send(rng));
+    if rng.chance(50) {
+        let other = match rng.below(4) {
+            0 => send
+                .number
+                .wrapping_add(rng.below(3) as u32)
+                .wrapping_sub(1),
+            1 => rng.any_u32(),
+            _ => EDGES[rng.index(EDGES.len())],
+        };
+        match rng.below(5) {
+            0 => send.kind = rng.below(u64::from(LAST_KIND) + 2) as u32,
+            1 => send.kind = rng.any_u32(),
+            2 => send.number = other,
+            3 => send.first = other,
+            _ => send.second = other,
+        }
+    }
+    send
+}
+
+/// Every kind and one more, with every member at every edge.
+fn every_edge(tally: &mut Tally) {
+    for kind in 0..=LAST_KIND + 1 {
+        for number in EDGES {
+            for first in EDGES {
+                for second in [0, 1, LAST] {
+                    hold_everywhere(tally, send_struct([kind, number, first, second]));
+                }
+            }
+        }
+    }
+}
+
+/// A message to send under a session of each state and under what is none, with
+/// just enough room and with one byte less.
+fn hold_everywhere(tally: &mut Tally, send: Send) {
+    let [down, waiting, live] = small_sessions();
+    for s in [down, waiting, live, NO_DAY] {
+        let length = length_of(&s, send);
+        hold_put(tally, s, send, length);
+        hold_put(tally, s, send, length.saturating_sub(1));
+    }
+}
+
+/// Connect's Logon from a session of each state, with numbers at every edge, and
+/// from what is no session.
+fn every_logon(tally: &mut Tally) {
+    let longest = vec![b'p'; tables::PASSWORD.width - 1];
+    let too_long = vec![b'p'; tables::PASSWORD.width];
+    let passwords = [&b""[..], b"ready encrypted", &longest, &too_long, b"\x7F"];
+    for state in proved::DOWN..=proved::LIVE + 1 {
+        for expected in EDGES {
+            for own in EDGES {
+                let s = proved::Session {
+                    state,
+                    expected,
+                    own,
+                    ..small_sessions()[0]
+                };
+                for password in passwords {
+                    for room in [0, LOGON_LENGTH - 1, LOGON_LENGTH, LOGON_LENGTH + 1] {
+                        hold_put_logon(tally, s, password, room);
+                    }
+                }
+            }
+        }
     }
 }
 
 fn odd_sessions(tally: &mut Tally, rng: &mut Rng, until: u64) {
+    every_edge(tally);
+    every_logon(tally);
+    let until = tally.count() + until;
     while tally.count() < until {
         let some = some_session(rng);
         let mut s = struct_of(&some);
@@ -1174,10 +1230,7 @@ fn odd_sessions(tally: &mut Tally, rng: &mut Rng, until: u64) {
         for room in rooms(rng, length_of(&s, send)) {
             hold_put(tally, s, send, room);
         }
-        let number = rng.any_u32();
-        let next = rng.any_u32();
-        let room = 511 + rng.index(3);
-        hold_put_logon(tally, s, number, &password, next, room);
+        hold_put_logon(tally, s, &password, logon_room(rng));
 
         let comp_id = odd_comp_id(rng);
         hold_fresh(tally, &comp_id);
@@ -1307,7 +1360,7 @@ fn hold_decimal(tally: &mut Tally, decimal: i64, room: usize) {
     hold_written(
         tally,
         room,
-        |out| lay(Ok(wire::decimal_text(decimal).into_bytes()), out),
+        |out| written(writer::put(wire::decimal_text(decimal).as_bytes(), out)),
         |out| proved::decimal_text(out, decimal),
         || format!("decimal_text {}", decimal),
     );
@@ -1444,7 +1497,7 @@ fn singles(s: proved::Session, bytes: &[u8], mut lists: Lists) -> (Done, Lists) 
         let answer = proved::step(done.session, rest);
         if answer.refusal == wire::SHORT {
             done.ended = Ended::Short as u32;
-            done.needed = proved::read(rest).besides;
+            done.besides = answer.besides;
             return (done, lists);
         }
         let Row { kind, first, last } = answer.row;
@@ -1461,15 +1514,14 @@ fn singles(s: proved::Session, bytes: &[u8], mut lists: Lists) -> (Done, Lists) 
             lay_slot(rows, done.rows, &numbers);
         }
         for (index, send) in (done.sends..).zip(to_send) {
-            let numbers = [send.kind, send.number, send.first, send.second];
-            lay_slot(sends, index, &numbers);
+            lay_slot(sends, index, &numbers_of(*send));
         }
         done.session = answer.session;
         done.used += answer.used;
         (done.rows, done.sends) = (row_end, send_end);
         if done.session.state == proved::DOWN {
             done.ended = Ended::Down as u32;
-            done.code = answer.refusal;
+            (done.code, done.besides) = (answer.refusal, answer.besides);
             return (done, lists);
         }
     }
@@ -1642,6 +1694,26 @@ fn many_messages(tally: &mut Tally, rng: &mut Rng, until: u64) {
     }
 }
 
+// ---- Version ----
+
+/// The twin's version, which is the library's too, in one number as the library
+/// tells it.
+fn twin_version() -> u32 {
+    let [major, minor, patch] = [
+        env!("CARGO_PKG_VERSION_MAJOR"),
+        env!("CARGO_PKG_VERSION_MINOR"),
+        env!("CARGO_PKG_VERSION_PATCH"),
+    ]
+    .map(|part| part.parse::<u32>().expect("cargo gives numbers"));
+    10_000 * major + 100 * minor + patch
+}
+
+fn versions(tally: &mut Tally, _: &mut Rng, _: u64) {
+    tally.hold(0, twin_version(), proved::version(), || {
+        String::from("version")
+    });
+}
+
 // ---- Daysheet ----
 
 /// Runs the program on a sheet; what it printed.
@@ -1762,7 +1834,7 @@ fn main() {
     let options = options();
     println!("compare: seed {}", options.seed);
     let mut tally = Tally::new();
-    let runs: [fn(&mut Tally, &mut Rng, u64); 10] = [
+    let runs: [fn(&mut Tally, &mut Rng, u64); CATEGORIES.len() - 1] = [
         short_inputs,
         valid_messages,
         writes,
@@ -1773,6 +1845,7 @@ fn main() {
         sums,
         decimals,
         many_messages,
+        versions,
     ];
     // Each category has a generator of its own, so that none moves another.
     let rng = |category: usize| {

@@ -46,7 +46,7 @@ impl Counts {
 fn head(reading: proved::Reading) -> Result<Head, Refusal> {
     assert_eq!((reading.refusal, reading.besides), (0, 0));
     Ok(Head {
-        kind: reading.kind,
+        message_type: reading.message_type,
         number: reading.number,
         poss_dup: reading.possdup,
         poss_resend: reading.possresend,
@@ -86,9 +86,10 @@ fn step(reports: &[Vec<u8>]) -> Counts {
         let row = said.row;
         assert_eq!((said.refusal, row.kind, row.first, row.last), business);
         assert_eq!((said.first.kind, said.second.kind), (0, 0));
+        assert_eq!((said.used, said.besides), (bytes.len(), 0));
         let row = told.row;
         assert_eq!((told.code, row.sort as u32, row.first, row.last), business);
-        assert_eq!(told.sends, [Send::None; 2]);
+        assert_eq!((told.sends, told.besides), ([Send::None; 2], 0));
         assert_eq!((a.expected, a.own, a.ahead), (b.e, b.o, b.m));
     }
     counts
@@ -104,7 +105,7 @@ fn taken_whole(bytes: &[u8]) -> Done {
         sends: 0,
         ended: Ended::Short,
         code: 0,
-        needed: 3,
+        besides: 3,
     }
 }
 

@@ -4,7 +4,8 @@ use Prim.Native.Nat.{_-_}
 use native.Mathlib.Omega.{arith}
 use borrow.Author.Needs.{needs}
 use lib.ListN.{length, length-drop}
-use Rattle.crc.proofs.Linear.{Reached, reached-byte, reached-part, rest}
+use Rattle.crc.proofs.Linear.{Reached, reached-byte, reached-part}
+use Rattle.wire.proofs.TestLaws.{rest-of}
 use Rattle.crc.proofs.Division.{reached-sum}
 use Rattle.crc.proofs.crc32c.Statement.{statement}
 use Rattle.crc.proofs.crc32c.Tie as tie
@@ -37,7 +38,7 @@ part-part-step-end : tie.Need-part-part-step-end Inv-loop μ-loop Inv-loop2 μ-l
 part-part-step-end c = search needs
 
 part-step-requires : tie.Need-part-step-requires Inv-loop μ-loop Inv-loop2 μ-loop2
-part-step-requires c κs = rw (rest, length-drop) (omega arith)
+part-step-requires c κs = rw (rest-of, length-drop) (omega arith)
 
 add-i : tie.Need-add-i Inv-loop μ-loop Inv-loop2 μ-loop2
 add-i c = search needs

@@ -5,10 +5,10 @@ use Rattle.layoutsheet.proofs.say_type.Statement.{statement}
 use Rattle.layoutsheet.proofs.say_type.Tie as tie
 
 abbrev Inv-loop : tie.InvT-loop
-Inv-loop kind span position₀ position = Unit
+Inv-loop messagetype span position₀ position = Unit
 
 abbrev μ-loop : tie.MeasureT-loop
-μ-loop kind span position₀ position = span - position
+μ-loop messagetype span position₀ position = span - position
 
 span-of-requires : tie.Need-span-of-requires Inv-loop μ-loop
 span-of-requires c κs = search needs

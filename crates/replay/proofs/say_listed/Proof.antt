@@ -6,10 +6,10 @@ use Rattle.replay.proofs.say_listed.Statement.{statement}
 use Rattle.replay.proofs.say_listed.Tie as tie
 
 abbrev Inv-loop : tie.InvT-loop
-Inv-loop out₀ said kind numbers fields s now₀ rest₀ left₀ out now rest left = length out ≡ length out₀
+Inv-loop out₀ said messagetype numbers fields s now₀ rest₀ left₀ out now rest left = length out ≡ length out₀
 
 abbrev μ-loop : tie.MeasureT-loop
-μ-loop out₀ said kind numbers fields s now₀ rest₀ left₀ out now rest left = left
+μ-loop out₀ said messagetype numbers fields s now₀ rest₀ left₀ out now rest left = left
 
 loop-holds : tie.Need-loop-holds Inv-loop μ-loop
 loop-holds c = search needs

@@ -10,6 +10,9 @@ enum-told c = search needs
 enum-known-ended : tie.Need-enum-known-ended
 enum-known-ended c = search needs
 
+number-requires : tie.Need-number-requires
+number-requires c κs = search needs
+
 enum-told-2 : tie.Need-enum-told-2
 enum-told-2 c = search needs
 
@@ -19,7 +22,7 @@ returns c = search needs
 
 returns-2 : tie.Need-returns-2
 unfolding endedCode
-returns-2 c = search needs
+returns-2 c = simp (c .number .ensures, c .before .before .ended .given .1)
 
 returns-3 : tie.Need-returns-3
 unfolding endedCode
@@ -27,4 +30,5 @@ returns-3 c = search needs
 
 pub ended-code-spec : {M : Type 1} → statement M
 ended-code-spec =
-    tie.close (tie.spec enum-told enum-known-ended enum-told-2 returns returns-2 returns-3)
+    tie.close
+    (tie.spec enum-told enum-known-ended number-requires enum-told-2 returns returns-2 returns-3)

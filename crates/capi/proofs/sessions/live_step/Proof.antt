@@ -6,9 +6,6 @@ use borrow.Author.Needs.{needs}
 use Rattle.capi.proofs.sessions.live_step.Statement.{statement}
 use Rattle.capi.proofs.sessions.live_step.Tie as tie
 
-session-in-requires : tie.Need-session-in-requires
-session-in-requires c κs = search needs
-
 read-requires : tie.Need-read-requires
 read-requires c κs = search needs
 
@@ -17,29 +14,23 @@ due-length-requires c κs = search needs
 
 in-turn-requires : tie.Need-in-turn-requires
 in-turn-requires c κs =
-    let t = c in
-    let d = t .before in
+    let d = c .before in
     let r = d .before in
-    let i = r .before in
-    let a = i .before .before .before in
-    let u = live-due (a .args .c) (a .pre) (a .args .s .now) (r .read .result) (r .read .ensures) (i .session-in .result) (d .due-length .result) (i .session-in .ensures) (d .due-length .ensures) (t .if1 .taken) in
-    (a .pre, u .more)
+    let a = r .before .before in
+    let u = live-due (a .args .c) (a .args .s .now) (r .read .result) (r .read .ensures) (a .args .session) (d .due-length .result) (a .pre .1) (d .due-length .ensures) (c .if1 .taken) in
+    (a .pre .0, u .more)
 
 returns : tie.Need-returns
 returns c =
     let t = c .before in
     let d = t .before in
     let r = d .before in
-    let i = r .before in
-    let a = i .before .before .before in
-    let u = live-due (a .args .c) (a .pre) (a .args .s .now) (r .read .result) (r .read .ensures) (i .session-in .result) (d .due-length .result) (i .session-in .ensures) (d .due-length .ensures) (t .if1 .taken) in
+    let a = r .before .before in
+    let u = live-due (a .args .c) (a .args .s .now) (r .read .result) (r .read .ensures) (a .args .session) (d .due-length .result) (a .pre .1) (d .due-length .ensures) (t .if1 .taken) in
     c .in-turn .ensures ∙ ap₂ shownStepped (u .size) (sym (u .taken))
 
-arrival-by-requires : tie.Need-arrival-by-requires
-arrival-by-requires c κs = search needs
-
-arrived-requires : tie.Need-arrived-requires
-arrived-requires c κs = search needs
+step-by-requires : tie.Need-step-by-requires
+step-by-requires c κs = search needs
 
 front-length-requires : tie.Need-front-length-requires
 front-length-requires c κs = search needs
@@ -51,24 +42,20 @@ returns-2 : tie.Need-returns-2
 returns-2 c =
     let f = c .before in
     let x = f .before in
-    let y = x .before in
-    let r = y .before .before .before .before in
-    let i = r .before in
-    let a = i .before .before .before in
-    let e = live-ruled (a .args .c) (a .pre) (a .args .s .now) (r .read .result) (r .read .ensures) (i .session-in .result) (y .arrival-by .result) (x .arrived .result) (i .session-in .ensures) (y .arrival-by .ensures) (x .arrived .ensures) in
+    let r = x .before .before .before in
+    let a = r .before .before in
+    let e = live-ruled (a .args .c) (a .args .s .now) (r .read .result) (r .read .ensures) (a .args .session) (x .step-by .result) (a .pre .1) (x .step-by .ensures) in
     c .stepped-shown .ensures ∙ ap₂ shownStepped (f .front-length .ensures) e
 
 pub live-step-spec : {M : Type 1} → statement M
 live-step-spec =
     tie.close
     (tie.spec
-    session-in-requires
     read-requires
     due-length-requires
     in-turn-requires
     returns
-    arrival-by-requires
-    arrived-requires
+    step-by-requires
     front-length-requires
     stepped-shown-requires
     returns-2)

@@ -3,7 +3,7 @@ use mathlib.Core.Path.{sym}
 use Prim.Native.Nat.{_≤_}
 use native.Mathlib.Omega.{arith}
 use lib.ListN.{length, drop-of-length-le}
-use Rattle.fields.proofs.WalkLaws.{rest-of}
+use Rattle.wire.proofs.TestLaws.{rest-of}
 use borrow.Author.Needs.{needs}
 use Rattle.fields.proofs.cut.behind.Statement.{statement}
 use Rattle.fields.proofs.cut.behind.Tie as tie

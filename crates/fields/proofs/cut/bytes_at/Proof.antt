@@ -12,10 +12,10 @@ use Rattle.fields.proofs.cut.bytes_at.Statement.{statement}
 use Rattle.fields.proofs.cut.bytes_at.Tie as tie
 
 abbrev Inv-loop : tie.InvT-loop
-Inv-loop kind map body p rest₀ q₀ rest q = Seeking (rowOf kind) map p body q rest
+Inv-loop messagetype map body p rest₀ q₀ rest q = Seeking (rowOf messagetype) map p body q rest
 
 abbrev μ-loop : tie.MeasureT-loop
-μ-loop kind map body p rest₀ q₀ rest q = p - q
+μ-loop messagetype map body p rest₀ q₀ rest q = p - q
 
 slice-aggregate-result : tie.Need-slice-aggregate-result Inv-loop μ-loop
 slice-aggregate-result c = search needs
@@ -63,11 +63,11 @@ loop-again c =
     let u : q < a .p = t .before .loop-test .taken in
     ⊎-elim
     (λ w.
-    seek-past (rowOf (a .kind)) _ _ _ q rest h (l .loop .inv) u (sym (t .is-present2 .ensures) ∙ w .0 .taken) (w .1 .result) (c .if3 .rest .now) (w .1 .ensures)
+    seek-past (rowOf (a .messagetype)) _ _ _ q rest h (l .loop .inv) u (sym (t .is-present2 .ensures) ∙ w .0 .taken) (w .1 .result) (c .if3 .rest .now) (w .1 .ensures)
     (ap now (w .3) ∙ w .2 .ensures))
     (λ w.
-    subst (Seeking (rowOf (a .kind)) _ _ _ (q + 1)) (sym (ap now (w .1)))
-    (seek-over (rowOf (a .kind)) _ _ _ q rest h (l .loop .inv) u (sym (t .is-present2 .ensures) ∙ w .0 .left)))
+    subst (Seeking (rowOf (a .messagetype)) _ _ _ (q + 1)) (sym (ap now (w .1)))
+    (seek-over (rowOf (a .messagetype)) _ _ _ q rest h (l .loop .inv) u (sym (t .is-present2 .ensures) ∙ w .0 .left)))
     (c .if3 .came)
 
 returns-3 : tie.Need-returns-3 Inv-loop μ-loop
@@ -76,7 +76,7 @@ returns-3 c =
     let i = l .before .before in
     let a = i .before .before .before .before .args in
     let h : a .p < 256 = omega arith in
-    seek-found (rowOf (a .kind)) _ _ _ _ _ h (l .loop .inv) (c .loop-test .left) (sym (i .is-present .ensures) ∙ not-false _ (l .before .if2 .left))
+    seek-found (rowOf (a .messagetype)) _ _ _ _ _ h (l .loop .inv) (c .loop-test .left) (sym (i .is-present .ensures) ∙ not-false _ (l .before .if2 .left))
 
 pub bytes-at-spec : {M : Type 1} → statement M
 bytes-at-spec =

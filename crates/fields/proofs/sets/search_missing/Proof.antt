@@ -10,10 +10,10 @@ use Rattle.fields.proofs.sets.search_missing.Statement.{statement}
 use Rattle.fields.proofs.sets.search_missing.Tie as tie
 
 abbrev Inv-loop : tie.InvT-loop
-Inv-loop kind map span p₀ p = NoneBelow (missingAt (rowOf kind) map) p
+Inv-loop messagetype map span p₀ p = NoneBelow (missingAt (rowOf messagetype) map) p
 
 abbrev μ-loop : tie.MeasureT-loop
-μ-loop kind map span p₀ p = span - p
+μ-loop messagetype map span p₀ p = span - p
 
 span-of-requires : tie.Need-span-of-requires Inv-loop μ-loop
 span-of-requires c κs = search needs

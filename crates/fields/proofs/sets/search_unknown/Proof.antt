@@ -15,17 +15,17 @@ use Rattle.fields.proofs.sets.search_unknown.Statement.{statement}
 use Rattle.fields.proofs.sets.search_unknown.Tie as tie
 
 abbrev Inv-loop2 : tie.InvT-loop2
-Inv-loop2 kind map i byte j₀ j =
-    (j ≤ 8) × (j < 8 → bitAt (getD map i 0) j ≡ true) × NoneBelow (unknownAt (rowOf kind) map) (i * 8 + j)
+Inv-loop2 messagetype map i byte j₀ j =
+    (j ≤ 8) × (j < 8 → bitAt (getD map i 0) j ≡ true) × NoneBelow (unknownAt (rowOf messagetype) map) (i * 8 + j)
 
 abbrev μ-loop2 : tie.MeasureT-loop2
-μ-loop2 kind map i byte j₀ j = 8 - j
+μ-loop2 messagetype map i byte j₀ j = 8 - j
 
 abbrev Inv-loop : tie.InvT-loop
-Inv-loop kind map i₀ i = NoneBelow (unknownAt (rowOf kind) map) (i * 8)
+Inv-loop messagetype map i₀ i = NoneBelow (unknownAt (rowOf messagetype) map) (i * 8)
 
 abbrev μ-loop : tie.MeasureT-loop
-μ-loop kind map i₀ i = 32 - i
+μ-loop messagetype map i₀ i = 32 - i
 
 loop-holds : tie.Need-loop-holds Inv-loop2 μ-loop2 Inv-loop μ-loop
 loop-holds c = none-below-zero _

@@ -3,7 +3,7 @@ use mathlib.Core.Path.{_≡_, sym, subst, refl}
 use mathlib.Core.Bool.{true}
 use Prim.Native.Nat.{ℕ}
 use Rattle.tables.specs.Line.{rowAt, isRequired}
-use Rattle.tables.specs.Reports.{orderAccepted, orderCancelled, orderCancelledUnsolicited, orderExpired, orderAmended, autoMatchedTrade, autoMatchedTradeCancel, oddLotTrade, semiAutoMatchedTradeCancel, nineTables, notRequired, joined, unionAt}
+use Rattle.tables.specs.Reports.{reports, addLine, column, nineTables, notRequired, joined, unionAt}
 use Rattle.tables.specs.Tables.{heartbeat, testRequest, resendRequest, reject, sequenceReset, logon, logout, lookupRequest, lookupResponse, businessMessageReject, tablesOf, rowOf}
 use Rattle.fields.specs.Words.{requiredBy}
 use Rattle.fields.specs.Words.{Holds}
@@ -52,11 +52,11 @@ unfolding requiredBy rowOf tablesOf unionAt joined rowAt isRequired businessMess
 returns-10 c = subst (λ (k : ℕ). Holds (requiredBy (rowOf k)) 0x00000000000000A0) (sym (c .match .keys10)) (holds (requiredBy (rowOf 9)) 0x00000000000000A0 tt)
 
 returns-11 : tie.Need-returns-11
-unfolding requiredBy rowOf tablesOf unionAt joined rowAt isRequired nineTables orderAccepted orderCancelled orderCancelledUnsolicited orderExpired orderAmended autoMatchedTrade autoMatchedTradeCancel oddLotTrade semiAutoMatchedTradeCancel notRequired
+unfolding requiredBy rowOf tablesOf unionAt joined rowAt isRequired nineTables reports addLine column notRequired
 returns-11 c = subst (λ (k : ℕ). Holds (requiredBy (rowOf k)) 0x00000004C0074073) (sym (c .match .keys11)) (holds (requiredBy (rowOf 10)) 0x00000004C0074073 tt)
 
 returns-12 : tie.Need-returns-12
-returns-12 c = every-bit (requiredBy (rowOf (c .before .args .kind)))
+returns-12 c = every-bit (requiredBy (rowOf (c .before .args .messagetype)))
 
 pub required-word-spec : {M : Type 1} → statement M
 required-word-spec =

@@ -3,7 +3,7 @@ use mathlib.Core.Path.{_≡_, sym, subst, refl}
 use mathlib.Core.Bool.{true}
 use Prim.Native.Nat.{ℕ}
 use Rattle.tables.specs.Line.{rowAt, isKnown, isRequired}
-use Rattle.tables.specs.Reports.{orderAccepted, orderCancelled, orderCancelledUnsolicited, orderExpired, orderAmended, autoMatchedTrade, autoMatchedTradeCancel, oddLotTrade, semiAutoMatchedTradeCancel, nineTables, notRequired, joined, unionAt}
+use Rattle.tables.specs.Reports.{reports, addLine, column, nineTables, notRequired, joined, unionAt}
 use Rattle.tables.specs.Tables.{heartbeat, testRequest, resendRequest, reject, sequenceReset, logon, logout, lookupRequest, lookupResponse, businessMessageReject, tablesOf, rowOf}
 use Rattle.fields.specs.Sets.{unknownTo}
 use Rattle.fields.specs.Words.{Holds}
@@ -52,11 +52,11 @@ unfolding unknownTo rowOf tablesOf unionAt joined rowAt isKnown businessMessageR
 returns-10 c = subst (λ (k : ℕ). Holds (unknownTo (rowOf k)) 0xFFFFFFFFFFFFFF03) (sym (c .match .keys10)) (holds (unknownTo (rowOf 9)) 0xFFFFFFFFFFFFFF03 tt)
 
 returns-11 : tie.Need-returns-11
-unfolding unknownTo rowOf tablesOf unionAt joined rowAt isKnown nineTables orderAccepted orderCancelled orderCancelledUnsolicited orderExpired orderAmended autoMatchedTrade autoMatchedTradeCancel oddLotTrade semiAutoMatchedTradeCancel notRequired isRequired
+unfolding unknownTo rowOf tablesOf unionAt joined rowAt isKnown nineTables reports addLine column notRequired isRequired
 returns-11 c = subst (λ (k : ℕ). Holds (unknownTo (rowOf k)) 0xFFFFCF0824002000) (sym (c .match .keys11)) (holds (unknownTo (rowOf 10)) 0xFFFFCF0824002000 tt)
 
 returns-12 : tie.Need-returns-12
-returns-12 c = every-bit (unknownTo (rowOf (c .before .args .kind)))
+returns-12 c = every-bit (unknownTo (rowOf (c .before .args .messagetype)))
 
 pub unknown-word-spec : {M : Type 1} → statement M
 unknown-word-spec =

@@ -5,12 +5,11 @@ use Prim.Native.Nat.{ℕ, _+_, _≤_}
 use native.Mathlib.Omega.{arith}
 use lib.Count.{leadingZeros, leading-le}
 use lib.ListN.{length}
-use mir.Syntax.{w64}
-use mir.Val.{Fits}
 use borrow.Author.Needs.{needs}
 use Rattle.fields.specs.Cut.{positions}
 use Rattle.fields.proofs.HeadLaws.{Ahead, Found, ahead-start, ahead-none, ahead-first, positions-count}
 use Rattle.fields.proofs.PositionLaws.{later}
+use Rattle.message.proofs.ListLaws.{fits}
 use Rattle.message.proofs.list.count_set.Statement.{statement}
 use Rattle.message.proofs.list.count_set.Tie as tie
 
@@ -22,9 +21,6 @@ record Counting (m : List ℕ) (left n : ℕ) : Type 0 where
 
 found : (m : List ℕ) (left n : ℕ) (i : Counting m left n) → (left ≡ 0 → ⊥) → Found m (i .from) left (leadingZeros 64 left)
 found m left n i h = ahead-first m left (i .from) (i .ahead) h
-
-fits : (n : ℕ) → n ≤ 64 → Fits w64 n
-fits n h = omega arith
 
 abbrev Inv-loop : tie.InvT-loop
 Inv-loop map left₀ n₀ left n = Counting map left n

@@ -23,7 +23,7 @@ number-in-requires c κs =
     let z = c .before .before .before .before .before .before .before .before in
     let a = z .args in
     let good = z .pre .3 in
-    quick-number-room (a .kind) (a .p) (a .whole) (a .s .now) good _ (sym (c .before .before .before .before .shape-at .ensures) ∙ c .before .before .width .given .1)
+    quick-number-room (a .messagetype) (a .p) (a .whole) (a .s .now) good _ (sym (c .before .before .before .before .shape-at .ensures) ∙ c .before .before .width .given .1)
 
 lay-five-requires : tie.Need-lay-five-requires
 lay-five-requires c κs = search needs
@@ -45,7 +45,7 @@ slice-aggregate-characters-in c =
     let z = c .before .before .before .before .before .before .before .before .before in
     let a = z .args in
     let good = z .pre .3 in
-    sym (length-take-le _ (a .s .now) (quick-fixed-room (a .kind) (a .p) (a .whole) (a .s .now) good _ (sym (c .before .before .before .before .before .shape-at .ensures) ∙ c .before .before .before .width2 .given .1)))
+    sym (length-take-le _ (a .s .now) (quick-fixed-room (a .messagetype) (a .p) (a .whole) (a .s .now) good _ (sym (c .before .before .before .before .before .shape-at .ensures) ∙ c .before .before .before .width2 .given .1)))
 
 characters-in-requires : tie.Need-characters-in-requires
 characters-in-requires c κs = search needs
@@ -67,7 +67,7 @@ returns c =
     let z = c .before .before .before .before .before .before .before .before .before .before .before .before in
     let a = z .args in
     let good = z .pre .3 in
-    quick-number (a .kind) (a .p) (a .whole) (a .s .now) good _ (sym (c .before .before .before .before .before .before .before .before .shape-at .ensures) ∙ c .before .before .before .before .before .before .width .given .1) _ (a .d .now) _ (c .before .before .before .number-in .ensures) (c .before .before .lay-five .ensures)
+    quick-number (a .messagetype) (a .p) (a .whole) (a .s .now) good _ (sym (c .before .before .before .before .before .before .before .before .shape-at .ensures) ∙ c .before .before .before .before .before .before .width .given .1) _ (a .d .now) _ (c .before .before .before .number-in .ensures) (c .before .before .lay-five .ensures)
 
 same-length-2 : tie.Need-same-length-2
 same-length-2 c = search needs
@@ -77,7 +77,7 @@ returns-2 c =
     let z = c .before .before .before .before .before .before .before .before .before .before .before in
     let a = z .args in
     let good = z .pre .3 in
-    quick-decimal (a .kind) (a .p) (a .whole) (a .s .now) good (sym (c .before .before .before .before .before .before .before .shape-at .ensures) ∙ c .before .before .before .before .before .enum-told .given .1) _ (a .d .now) _ (λ i. c .before .before .before .before .before .before .before .before .shared-slice-known2 .given i .fits) (c .before .before .before .read-eight .ensures) (c .before .before .lay-five2 .ensures)
+    quick-decimal (a .messagetype) (a .p) (a .whole) (a .s .now) good (sym (c .before .before .before .before .before .before .before .shape-at .ensures) ∙ c .before .before .before .before .before .enum-told .given .1) _ (a .d .now) _ (λ i. c .before .before .before .before .before .before .before .before .shared-slice-known2 .given i .fits) (c .before .before .before .read-eight .ensures) (c .before .before .lay-five2 .ensures)
 
 same-length-3 : tie.Need-same-length-3
 same-length-3 c = search needs
@@ -87,7 +87,7 @@ returns-3 c =
     let z = c .before .before .before .before .before .before .before .before .before .before .before .before .before in
     let a = z .args in
     let good = z .pre .3 in
-    quick-fixed (a .kind) (a .p) (a .whole) (a .s .now) good _ (sym (c .before .before .before .before .before .before .before .before .before .shape-at .ensures) ∙ c .before .before .before .before .before .before .before .width2 .given .1) _ (a .d .now) _ (c .before .before .before .characters-in .ensures) (c .before .before .lay-five3 .ensures)
+    quick-fixed (a .messagetype) (a .p) (a .whole) (a .s .now) good _ (sym (c .before .before .before .before .before .before .before .before .before .shape-at .ensures) ∙ c .before .before .before .before .before .before .before .width2 .given .1) _ (a .d .now) _ (c .before .before .before .characters-in .ensures) (c .before .before .lay-five3 .ensures)
 
 same-length-4 : tie.Need-same-length-4
 same-length-4 c = search needs

@@ -5,31 +5,26 @@ use Prim.Native.Nat.{ℕ, _≤_}
 use native.Mathlib.Omega.{arith}
 use lib.Count.{leadingZeros, leading-le}
 use lib.ListN.{length}
-use mir.Syntax.{w64}
-use mir.Val.{Fits}
 use borrow.Author.Needs.{needs}
 use Rattle.wire.specs.Laying.{laid}
-use Rattle.fields.proofs.WalkLaws.{rest-of}
+use Rattle.wire.proofs.TestLaws.{rest-of}
 use Rattle.message.specs.declared.frame.Header.{Header}
 use Rattle.message.specs.declared.read.Reading.the-variants.{Good}
 use Rattle.message.specs.Frame.{mapIn, bodyIn}
 use Rattle.message.specs.Read.{readOf}
-use Rattle.message.proofs.ListLaws.{Listing, listing-start, listing-set, listing-good, listing-below, listing-room, listing-fits, listing-part, listing-on, listing-end, listing-same, listing-within, Entered, enter}
+use Rattle.message.proofs.ListLaws.{fits, Listing, listing-start, listing-set, listing-good, listing-below, listing-room, listing-fits, listing-part, listing-on, listing-end, listing-same, listing-within, Entered, enter}
 use Rattle.message.proofs.list.lay_fields.Statement.{statement}
 use Rattle.message.proofs.list.lay_fields.Tie as tie
-
-fits : (n : ℕ) → n ≤ 64 → Fits w64 n
-fits n h = omega arith
 
 -- the map and the body that the code has are the message's
 entered : (s : List ℕ) (h : Header) (whole : ℕ) (m body : List ℕ) → m ≡ mapIn s → body ≡ bodyIn whole s → readOf s ≡ Good h whole → Entered s h whole m body
 entered s h whole m body p q e = rw (p, q) (enter s h whole e)
 
 abbrev Inv-loop : tie.InvT-loop
-Inv-loop d₀ s whole kind map rest₀ left₀ laid₀ d rest left laid = Listing kind whole map rest₀ d₀ d laid left rest
+Inv-loop d₀ s whole messagetype map rest₀ left₀ laid₀ d rest left laid = Listing messagetype whole map rest₀ d₀ d laid left rest
 
 abbrev μ-loop : tie.MeasureT-loop
-μ-loop d₀ s whole kind map rest₀ left₀ laid₀ d rest left laid = left
+μ-loop d₀ s whole messagetype map rest₀ left₀ laid₀ d rest left laid = left
 
 map-in-requires : tie.Need-map-in-requires Inv-loop μ-loop
 map-in-requires c κs = search needs

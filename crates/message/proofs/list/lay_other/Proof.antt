@@ -65,8 +65,8 @@ returns c =
     let x = v .before in
     let t = x .before in
     let a = t .before .before .before .before .args in
-    told-laid (rowOf (a .kind) (a .p)) (a .whole) (a .p) _ _ (a .s .now) (a .d .now) _ _ _ (t .text-start .ensures) (x .extent-at .ensures)
-    (set-value (rowOf (a .kind)) (a .map .now) (a .p) (a .s .now) _ _ (c .before .before .before .before .before .before .before .before .before .before .before .before .before .pre .1) (v .value-in .ensures) (c .before .before .before .before .before .n .given .1)) refl (c .before .before .lay-five .ensures)
+    told-laid (rowOf (a .messagetype) (a .p)) (a .whole) (a .p) _ _ (a .s .now) (a .d .now) _ _ _ (t .text-start .ensures) (x .extent-at .ensures)
+    (set-value (rowOf (a .messagetype)) (a .map .now) (a .p) (a .s .now) _ _ (c .before .before .before .before .before .before .before .before .before .before .before .before .before .pre .1) (v .value-in .ensures) (c .before .before .before .before .before .n .given .1)) refl (c .before .before .lay-five .ensures)
 
 same-length-2 : tie.Need-same-length-2
 same-length-2 c = search needs
@@ -77,8 +77,8 @@ returns-2 c =
     let x = v .before in
     let t = x .before in
     let a = t .before .before .before .before .args in
-    let q = set-value (rowOf (a .kind)) (a .map .now) (a .p) (a .s .now) _ _ (c .before .before .before .before .before .before .before .before .before .before .before .before .before .pre .1) (v .value-in .ensures) (c .before .before .before .before .before .enum-told .given .1) in
-    decimal-laid (rowOf (a .kind) (a .p)) (a .whole) (a .p) _ _ _ (a .s .now) (a .d .now) _ _ (t .text-start .ensures) (x .extent-at .ensures) q
+    let q = set-value (rowOf (a .messagetype)) (a .map .now) (a .p) (a .s .now) _ _ (c .before .before .before .before .before .before .before .before .before .before .before .before .before .pre .1) (v .value-in .ensures) (c .before .before .before .before .before .enum-told .given .1) in
+    decimal-laid (rowOf (a .messagetype) (a .p)) (a .whole) (a .p) _ _ _ (a .s .now) (a .d .now) _ _ (t .text-start .ensures) (x .extent-at .ensures) q
     (λ i. t .before .shared-slice-known2 .given i .fits) (c .before .before .before .read-eight .ensures) (c .before .before .lay-five2 .ensures)
 
 same-length-3 : tie.Need-same-length-3
@@ -91,8 +91,8 @@ returns-3 c =
     let x = v .before in
     let t = x .before in
     let a = t .before .before .before .before .args in
-    told-laid (rowOf (a .kind) (a .p)) (a .whole) (a .p) _ _ (a .s .now) (a .d .now) _ _ _ (t .text-start .ensures) (x .extent-at .ensures)
-    (set-value (rowOf (a .kind)) (a .map .now) (a .p) (a .s .now) _ _ (c .before .before .before .before .before .before .before .before .before .before .before .before .before .pre .1) (v .value-in .ensures) (c .before .before .before .before .before .n2 .given .1)) refl (c .before .before .lay-five3 .ensures)
+    told-laid (rowOf (a .messagetype) (a .p)) (a .whole) (a .p) _ _ (a .s .now) (a .d .now) _ _ _ (t .text-start .ensures) (x .extent-at .ensures)
+    (set-value (rowOf (a .messagetype)) (a .map .now) (a .p) (a .s .now) _ _ (c .before .before .before .before .before .before .before .before .before .before .before .before .before .pre .1) (v .value-in .ensures) (c .before .before .before .before .before .n2 .given .1)) refl (c .before .before .lay-five3 .ensures)
 
 same-length-4 : tie.Need-same-length-4
 same-length-4 c = search needs
@@ -104,8 +104,8 @@ returns-4 c =
     let x = v .before in
     let t = x .before in
     let a = t .before .before .before .before .args in
-    told-laid (rowOf (a .kind) (a .p)) (a .whole) (a .p) _ _ (a .s .now) (a .d .now) _ _ _ (t .text-start .ensures) (x .extent-at .ensures)
-    (set-value (rowOf (a .kind)) (a .map .now) (a .p) (a .s .now) _ _ (c .before .before .before .before .before .before .before .before .before .before .before .before .pre .1) (v .value-in .ensures) (c .before .before .before .before .enum-told2 .given .1)) refl (c .before .before .lay-five4 .ensures)
+    told-laid (rowOf (a .messagetype) (a .p)) (a .whole) (a .p) _ _ (a .s .now) (a .d .now) _ _ _ (t .text-start .ensures) (x .extent-at .ensures)
+    (set-value (rowOf (a .messagetype)) (a .map .now) (a .p) (a .s .now) _ _ (c .before .before .before .before .before .before .before .before .before .before .before .before .pre .1) (v .value-in .ensures) (c .before .before .before .before .enum-told2 .given .1)) refl (c .before .before .lay-five4 .ensures)
 
 same-length-5 : tie.Need-same-length-5
 same-length-5 c = search needs
@@ -117,8 +117,8 @@ returns-5 c =
     let x = v .before in
     let t = x .before in
     let a = t .before .before .before .before .args in
-    told-laid (rowOf (a .kind) (a .p)) (a .whole) (a .p) _ _ (a .s .now) (a .d .now) _ _ _ (t .text-start .ensures) (x .extent-at .ensures)
-    (set-value (rowOf (a .kind)) (a .map .now) (a .p) (a .s .now) _ _ (c .before .before .before .before .before .before .before .before .before .before .before .before .pre .1) (v .value-in .ensures) (c .before .before .before .before .enum-told3 .given .1)) refl (c .before .before .lay-five5 .ensures)
+    told-laid (rowOf (a .messagetype) (a .p)) (a .whole) (a .p) _ _ (a .s .now) (a .d .now) _ _ _ (t .text-start .ensures) (x .extent-at .ensures)
+    (set-value (rowOf (a .messagetype)) (a .map .now) (a .p) (a .s .now) _ _ (c .before .before .before .before .before .before .before .before .before .before .before .before .pre .1) (v .value-in .ensures) (c .before .before .before .before .enum-told3 .given .1)) refl (c .before .before .lay-five5 .ensures)
 
 same-length-6 : tie.Need-same-length-6
 same-length-6 c = search needs
@@ -130,8 +130,8 @@ returns-6 c =
     let x = v .before in
     let t = x .before in
     let a = t .before .before .before .before .args in
-    told-laid (rowOf (a .kind) (a .p)) (a .whole) (a .p) _ _ (a .s .now) (a .d .now) _ _ _ (t .text-start .ensures) (x .extent-at .ensures)
-    (set-value (rowOf (a .kind)) (a .map .now) (a .p) (a .s .now) _ _ (c .before .before .before .before .before .before .before .before .before .before .before .before .pre .1) (v .value-in .ensures) (c .before .before .before .before .enum-told4 .given .1)) refl (c .before .before .lay-five6 .ensures)
+    told-laid (rowOf (a .messagetype) (a .p)) (a .whole) (a .p) _ _ (a .s .now) (a .d .now) _ _ _ (t .text-start .ensures) (x .extent-at .ensures)
+    (set-value (rowOf (a .messagetype)) (a .map .now) (a .p) (a .s .now) _ _ (c .before .before .before .before .before .before .before .before .before .before .before .before .pre .1) (v .value-in .ensures) (c .before .before .before .before .enum-told4 .given .1)) refl (c .before .before .lay-five6 .ensures)
 
 pub lay-other-spec : {M : Type 1} → statement M
 lay-other-spec =

@@ -16,9 +16,6 @@ content-in-requires c κs = search needs
 enum-known-reading-2 : tie.Need-enum-known-reading-2
 enum-known-reading-2 c = search needs
 
-number-requires : tie.Need-number-requires
-number-requires c κs = search needs
-
 returns : tie.Need-returns
 unfolding arrivalBy messageIn
 returns c =
@@ -27,7 +24,7 @@ returns c =
 
 returns-2 : tie.Need-returns-2
 unfolding arrivalBy
-returns-2 c = simp (c .number .ensures, c .before .before .reading2 .given .1)
+returns-2 c = simp (c .before .reading2 .given .1)
 
 pub arrival-by-spec : {M : Type 1} → statement M
 arrival-by-spec =
@@ -37,6 +34,5 @@ arrival-by-spec =
     is-ours-requires
     content-in-requires
     enum-known-reading-2
-    number-requires
     returns
     returns-2)

@@ -1,6 +1,6 @@
 -- `session::arrival::content_in` meets its contract: a type above 8 is business.
 use native.Mathlib.Omega.{arith}
-use Rattle.session.proofs.KindLaws.{above-eight}
+use Rattle.session.proofs.TypeLaws.{above-eight}
 use borrow.Author.Needs.{needs}
 use Rattle.session.proofs.arrival.content_in.Statement.{statement}
 use Rattle.session.proofs.arrival.content_in.Tie as tie

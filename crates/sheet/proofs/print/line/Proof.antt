@@ -12,6 +12,9 @@ use borrow.Author.Needs.{needs}
 use Rattle.sheet.proofs.print.line.Statement.{statement}
 use Rattle.sheet.proofs.print.line.Tie as tie
 
+expected-requires : tie.Need-expected-requires
+expected-requires c κs = search needs
+
 first-of-requires : tie.Need-first-of-requires
 first-of-requires c κs = search needs
 
@@ -59,18 +62,18 @@ unfolding spelled printed
 returns c =
     let t = c .before .before .before .before .before .before .before .before .before .before .before .before .before .before .before .before .before .before .before .before .before .before .before .before .before .before .before .before .before .args .t in
     let row = t .answer .row in
-    let n = c .before .before .before .before .before .before .before .before .before .before .before .before .before .before .before .before .before .before .before .before .before .before .put-row in
-    let f = c .before .before .before .before .before .before .before .before .before .before .before .before .before .before .before .before .before .put-field in
-    let g = c .before .before .before .before .before .before .before .before .before .before .before .before .put-field2 in
+    let n = c .before .before .before .before .before .before .before .before .before .before .before .before .before .before .before .before .before .before .before .before .before .put-row in
+    let f = c .before .before .before .before .before .before .before .before .before .before .before .before .before .before .before .before .put-field in
+    let g = c .before .before .before .before .before .before .before .before .before .before .before .put-field2 in
     let h = c .before .before .before .before .before .before .put-field3 in
     let o = c .before .before .put-out in
     let out : List ℕ = spelled " out=" ++ (sendName (t .answer .first) ++ 10 ∷ []) in (
       omega (arith, n .ensures .0, f .ensures .0, g .ensures .0, h .ensures .0, o .ensures .0),
       o .ensures .1
           ∙ ap (λ (x : List ℕ). x ++ out) (h .ensures .1)
-          ∙ ap (λ (x : List ℕ). ((x ++ spelled " next=") ++ numberText (t .session .expected)) ++ out) (g .ensures .1)
-          ∙ ap₂ (λ (x : List ℕ) (k : ℕ). ((((x ++ spelled " last=") ++ numberText k) ++ spelled " next=") ++ numberText (t .session .expected)) ++ out) (f .ensures .1) (c .before .before .before .before .before .before .before .before .before .before .before .before .before .before .before .before .before .before .before .before .before .before .before .before .last-of .ensures)
-          ∙ ap₂ (λ (x : List ℕ) (k : ℕ). ((((((x ++ spelled " first=") ++ numberText k) ++ spelled " last=") ++ numberText (lastOf row)) ++ spelled " next=") ++ numberText (t .session .expected)) ++ out) (n .ensures .1) (c .before .before .before .before .before .before .before .before .before .before .before .before .before .before .before .before .before .before .before .before .before .before .before .before .before .first-of .ensures)
+          ∙ ap₂ (λ (x : List ℕ) (k : ℕ). ((x ++ spelled " next=") ++ numberText k) ++ out) (g .ensures .1) (c .before .before .before .before .before .before .before .before .before .before .before .before .before .before .before .before .before .before .before .before .before .before .before .before .before .expected .ensures)
+          ∙ ap₂ (λ (x : List ℕ) (k : ℕ). ((((x ++ spelled " last=") ++ numberText k) ++ spelled " next=") ++ numberText (t .session .expected)) ++ out) (f .ensures .1) (c .before .before .before .before .before .before .before .before .before .before .before .before .before .before .before .before .before .before .before .before .before .before .before .last-of .ensures)
+          ∙ ap₂ (λ (x : List ℕ) (k : ℕ). ((((((x ++ spelled " first=") ++ numberText k) ++ spelled " last=") ++ numberText (lastOf row)) ++ spelled " next=") ++ numberText (t .session .expected)) ++ out) (n .ensures .1) (c .before .before .before .before .before .before .before .before .before .before .before .before .before .before .before .before .before .before .before .before .before .before .before .before .first-of .ensures)
           ∙ in-order (spelled "row=") (rowName row) (spelled " first=") (numberText (firstOf row)) (spelled " last=") (numberText (lastOf row)) (spelled " next=") (numberText (t .session .expected)) out,
     )
 
@@ -78,6 +81,7 @@ pub line-spec : {M : Type 1} → statement M
 line-spec =
     tie.close
     (tie.spec
+    expected-requires
     first-of-requires
     last-of-requires
     put-row-requires

@@ -6,23 +6,18 @@ use native.Mathlib.Nat.{mod-lt, mod-one, pow-suc}
 use native.Mathlib.Omega.{arith}
 use lib.Bits.{bitAnd, and-mask}
 use lib.Count.{leadingZeros, leading-of-zero, leading-le, leading-unique, trailing-le}
-use lib.Pow.{pow-pos, mod-pow-add, ones-split, ones-lt, high}
+use lib.Pow.{pow-pos, ones-split, ones-lt, high}
 use mir.Syntax.{w8}
 use mir.Val.{Fits}
 use borrow.Author.Needs.{needs}
 use borrow.Author.Tests.{eqb-true, eqb-false}
 use Rattle.wire.specs.Map.{bitAt, nextBit}
-use Rattle.wire.proofs.MapLaws.{nextBit-hit, nextBit-pass, nextBit-end}
+use Rattle.wire.proofs.MapLaws.{with-place, nextBit-hit, nextBit-pass, nextBit-end}
 use Rattle.wire.proofs.map.next_bit.Statement.{statement}
 use Rattle.wire.proofs.map.next_bit.Tie as tie
 
 -- The last k places of b, from place 8 - k on, are its remainder by 2 ^ k. Place j before them is the next set one, or it is passed over.
 module _ (b : ℕ) where
-  with-place : (k d : ℕ) → b / 2 ^ k % 2 ≡ d → b % 2 ^ suc k ≡ d * 2 ^ k + b % 2 ^ k
-  with-place k d e =
-      let s : 1 + k ≡ suc k = omega arith in
-      rw s at (mod-pow-add b 1 k) ∙ ap (λ (x : ℕ). x * 2 ^ k + b % 2 ^ k) e
-
   zeros-before : (k j : ℕ) → j + suc k ≡ 8 → leadingZeros 8 (b % 2 ^ k) ≡ nextBit b (j + 1) → leadingZeros 8 (b % 2 ^ suc k) ≡ nextBit b j
   unfolding bitAt
   zeros-before k j e after = go (bitAt b j) refl
@@ -32,12 +27,12 @@ module _ (b : ℕ) where
 
       go : (t : Bool) → bitAt b j ≡ t → leadingZeros 8 (b % 2 ^ suc k) ≡ nextBit b j
       go true t =
-          let set = with-place k 1 (rw here at (eqb-true (b / 2 ^ (7 - j) % 2) 1 t)) in
+          let set = with-place b k 1 (rw here at (eqb-true (b / 2 ^ (7 - j) % 2) 1 t)) in
           sym (leading-unique 8 (b % 2 ^ suc k) j (suc k) e (mod-lt b (pow-pos (suc k))) (omega (arith, set, pow-suc 2 k)))
           ∙ sym (nextBit-hit b j (omega arith) t)
       go false t =
           let clear : b / 2 ^ k % 2 ≡ 1 → ⊥ = rw here at (eqb-false (b / 2 ^ (7 - j) % 2) 1 t) in
-          let same : b % 2 ^ suc k ≡ b % 2 ^ k = omega (arith, with-place k 0 (omega arith)) in
+          let same : b % 2 ^ suc k ≡ b % 2 ^ k = omega (arith, with-place b k 0 (omega arith)) in
           ap (leadingZeros 8) same ∙ after ∙ sym (nextBit-pass b j (omega arith) t)
 
   zeros-next : (k j : ℕ) → j + k ≡ 8 → leadingZeros 8 (b % 2 ^ k) ≡ nextBit b j

@@ -8,7 +8,7 @@ use lib.ListN.{length, drop, length-drop}
 use borrow.Author.Needs.{needs}
 use borrow.Author.Tests.{not-true, not-false}
 use Rattle.wire.specs.Text.{characters}
-use Rattle.wire.proofs.EightLaws.{rest}
+use Rattle.wire.proofs.TestLaws.{rest-of}
 use Rattle.wire.proofs.MarkLaws.{eight-more, stops-within}
 use Rattle.wire.proofs.TextLaws.{count-next, count-ends, count-done}
 use Rattle.wire.proofs.text.characters_in.Statement.{statement}
@@ -42,7 +42,7 @@ part-outside-end : tie.Need-part-outside-end Inv-loop μ-loop Inv-loop2 μ-loop2
 part-outside-end c = search needs
 
 outside-requires : tie.Need-outside-requires Inv-loop μ-loop Inv-loop2 μ-loop2
-outside-requires c κs = rw (rest, length-drop) (omega arith)
+outside-requires c κs = rw (rest-of, length-drop) (omega arith)
 
 cast-result : tie.Need-cast-result Inv-loop μ-loop Inv-loop2 μ-loop2
 cast-result c = omega (arith, trailing-le 64 (c .before .outside .result))

@@ -13,11 +13,11 @@ use Rattle.writer.proofs.put.put_fields.Statement.{statement}
 use Rattle.writer.proofs.put.put_fields.Tie as tie
 
 abbrev Inv-loop : tie.InvT-loop
-Inv-loop d₀ kind map body at₀ rest₀ left₀ d at rest left =
-    Filled (rowOf kind) map (plainPieces (rowOf kind)) d₀ (plainFields (rowOf kind) map body) d at left rest
+Inv-loop d₀ messagetype map body at₀ rest₀ left₀ d at rest left =
+    Filled (rowOf messagetype) map (plainPieces (rowOf messagetype)) d₀ (plainFields (rowOf messagetype) map body) d at left rest
 
 abbrev μ-loop : tie.MeasureT-loop
-μ-loop d₀ kind map body at₀ rest₀ left₀ d at rest left = left
+μ-loop d₀ messagetype map body at₀ rest₀ left₀ d at rest left = left
 
 head-requires : tie.Need-head-requires Inv-loop μ-loop
 head-requires c κs = search needs

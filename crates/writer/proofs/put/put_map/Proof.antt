@@ -1,7 +1,7 @@
 -- `writer::put::put_map` meets its contract: each word is laid behind those before it.
 use native.Mathlib.Omega.{arith}
 use borrow.Author.Needs.{needs}
-use Rattle.wire.proofs.NumberLaws.{Bytes}
+use Rattle.wire.specs.Number.{Bytes}
 use Rattle.writer.proofs.HeadLaws.{map-first, map-on, map-laid}
 use Rattle.writer.proofs.put.put_map.Statement.{statement}
 use Rattle.writer.proofs.put.put_map.Tie as tie

@@ -62,7 +62,7 @@ returns-3 c =
     let a = c .before .before .before .before .before .before .before .before .before .before .before .before .before .before .before .before .before .before in
     let h = a .args .header in
     let m = a .args .map .now in
-    let p = plainFields (rowOf (h .kind)) m (a .args .body .now) in
+    let p = plainFields (rowOf (h .messagetype)) m (a .args .body .now) in
     let n = 58 + a .args .plain in
     let e : n ≡ 58 + length p = ap (λ (k : ℕ). 58 + k) (sym (vetted-length (a .args .header) (a .args .comp .now) (a .args .map .now) (a .args .body .now) (a .args .d .now) (a .args .plain) (a .pre .1))) in
     write-done (a .args .header) (a .args .comp .now) (a .args .map .now) (a .args .body .now) (a .args .d .now) (a .args .plain) (a .pre .1) (omega arith) (a .pre .0) (omega arith) _

@@ -5,7 +5,7 @@ use native.Mathlib.Omega.{arith}
 use lib.ListN.{length, length-drop}
 use borrow.Author.Needs.{needs}
 use borrow.Author.Tests.{leb-true}
-use Rattle.fields.proofs.WalkLaws.{rest-of}
+use Rattle.wire.proofs.TestLaws.{rest-of}
 use Rattle.session.proofs.GoingLaws.{Going, going-start, same-size, front-in, row-five, going-quick, turn-bounds, turn-same, going-next, going-last}
 use Rattle.session.proofs.TurnLaws.{due-step}
 use Rattle.session.proofs.state.Session.run.Statement.{statement}

@@ -9,6 +9,7 @@ use Rattle.session.specs.declared.state.Stepped.{Stepped}
 use Rattle.session.specs.declared.steps.Ended.the-variants.{Short}
 use Rattle.session.specs.declared.steps.Next.the-variants.{Ends}
 use Rattle.session.specs.Day.{step}
+use Rattle.session.specs.State.{codeNumber}
 use Rattle.session.specs.Steps.{did, stepDone, fits, neededBy}
 use Rattle.session.proofs.CourseLaws.{Fits, fits-true, fits-by, row-room, short-turn, full-turn, done-turn}
 use Rattle.session.proofs.TurnedLaws.{read-step, turns-nothing, turns-done}
@@ -16,11 +17,11 @@ use borrow.Author.Needs.{needs}
 use Rattle.session.proofs.state.Session.turn.Statement.{statement}
 use Rattle.session.proofs.state.Session.turn.Tie as tie
 
-arrival-by-requires : tie.Need-arrival-by-requires
-arrival-by-requires c κs = search needs
+step-by-requires : tie.Need-step-by-requires
+step-by-requires c κs = search needs
 
-arrived-requires : tie.Need-arrived-requires
-arrived-requires c κs = search needs
+number-requires : tie.Need-number-requires
+number-requires c κs = search needs
 
 needed-by-requires : tie.Need-needed-by-requires
 needed-by-requires c κs = search needs
@@ -32,13 +33,13 @@ returns : tie.Need-returns
 returns c =
     let k = c .before .before in
     let n = k .before .before .before .before in
-    let a = n .before .before .before .before .before .before .before in
+    let a = n .before .before .before .before in
     let s = a .args .s .now in
     let r = length (a .args .rows .now) in
     let q = length (a .args .sends .now) in
-    let e = read-step (a .args .self) s (a .args .reading) _ _ (a .pre .1) (a .pre .0) (n .before .arrival-by .ensures) (n .arrived .ensures) in
+    let e = read-step (a .args .self) s (a .args .reading) _ (a .pre .0) (n .step-by .ensures) in
     let w = ap (λ (m : ℕ). did (a .args .self) (Ends (Short m))) (ap neededBy (sym (a .pre .0)) ∙ sym (c .before .needed-by .ensures)) in
-    let u = short-turn (a .args .at) r q (a .args .self) s (ap (λ (x : Stepped). x .answer .code) (sym e) ∙ k .if1 .taken) in
+    let u = short-turn (a .args .at) r q (a .args .self) s (ap (λ (x : Stepped). codeNumber (x .answer .code)) (sym e) ∙ sym (k .before .number .ensures) ∙ k .if1 .taken) in
     let t = turns-nothing _ (a .args .self) _ (c .ends .result) (a .args .rows .now) (a .args .sends .now) (u ∙ w) (c .ends .ensures) in
     (t .answer, t .rows, t .sends)
 
@@ -53,12 +54,12 @@ returns-2 c =
     let f = c .before .before in
     let k = f .before in
     let n = k .before .before .before .before in
-    let a = n .before .before .before .before .before .before .before in
+    let a = n .before .before .before .before in
     let s = a .args .s .now in
     let r = length (a .args .rows .now) in
     let q = length (a .args .sends .now) in
-    let e = read-step (a .args .self) s (a .args .reading) _ _ (a .pre .1) (a .pre .0) (n .before .arrival-by .ensures) (n .arrived .ensures) in
-    let l : step (a .args .self) s .answer .code ≡ 1 → ⊥ = λ o. k .if1 .left (ap (λ (x : Stepped). x .answer .code) e ∙ o) in
+    let e = read-step (a .args .self) s (a .args .reading) _ (a .pre .0) (n .step-by .ensures) in
+    let l : codeNumber (step (a .args .self) s .answer .code) ≡ 1 → ⊥ = λ o. k .if1 .left (k .before .number .ensures ∙ ap (λ (x : Stepped). codeNumber (x .answer .code)) e ∙ o) in
     let g = ap (λ (x : Stepped). fits (a .args .at) r q (x .answer)) (sym e) ∙ sym (f .is-fitting .ensures) ∙ not-true _ (c .before .if2 .taken) in
     let u = full-turn (a .args .at) r q (a .args .self) s l (λ o. true≢false (sym (fits-by (a .args .at) r q _ o) ∙ g)) in
     let t = turns-nothing _ (a .args .self) _ (c .ends2 .result) (a .args .rows .now) (a .args .sends .now) u (c .ends2 .ensures) in
@@ -72,23 +73,23 @@ put-row-requires c κs =
     let p = c .before in
     let f = p .before .before in
     let n = f .before .before .before .before .before in
-    let a = n .before .before .before .before .before .before .before in
+    let a = n .before .before .before .before in
     let s = a .args .s .now in
     let r = length (a .args .rows .now) in
     let q = length (a .args .sends .now) in
-    let i = fits-true (a .args .at) r q (n .arrived .result .answer) (sym (f .is-fitting .ensures) ∙ not-false _ (p .before .if2 .left)) in
-    (omega (arith, i .rows, row-room (a .args .at) (p .used-by .result) (a .args .at) 0 (n .arrived .result .answer .row)), i .place, p .used-by .ensures .2)
+    let i = fits-true (a .args .at) r q (n .step-by .result .answer) (sym (f .is-fitting .ensures) ∙ not-false _ (p .before .if2 .left)) in
+    (omega (arith, i .rows, row-room (a .args .at) (p .used-by .result) (a .args .at) 0 (n .step-by .result .answer .row)), i .place, p .used-by .ensures .2)
 
 put-sends-requires : tie.Need-put-sends-requires
 put-sends-requires c κs =
     let p = c .before .before .before .before .before in
     let f = p .before .before in
     let n = f .before .before .before .before .before in
-    let a = n .before .before .before .before .before .before .before in
+    let a = n .before .before .before .before in
     let s = a .args .s .now in
     let r = length (a .args .rows .now) in
     let q = length (a .args .sends .now) in
-    let i = fits-true (a .args .at) r q (n .arrived .result .answer) (sym (f .is-fitting .ensures) ∙ not-false _ (p .before .if2 .left)) in
+    let i = fits-true (a .args .at) r q (n .step-by .result .answer) (sym (f .is-fitting .ensures) ∙ not-false _ (p .before .if2 .left)) in
     i .sends
 
 next-of-requires : tie.Need-next-of-requires
@@ -107,24 +108,24 @@ returns-3 c =
     let p = w .before .before in
     let f = p .before .before in
     let n = f .before .before .before .before .before in
-    let a = n .before .before .before .before .before .before .before in
+    let a = n .before .before .before .before in
     let s = a .args .s .now in
     let r = length (a .args .rows .now) in
     let q = length (a .args .sends .now) in
-    let i = fits-true (a .args .at) r q (n .arrived .result .answer) (sym (f .is-fitting .ensures) ∙ not-false _ (p .before .if2 .left)) in
-    let e = read-step (a .args .self) s (a .args .reading) _ _ (a .pre .1) (a .pre .0) (n .before .arrival-by .ensures) (n .arrived .ensures) in
-    let l : step (a .args .self) s .answer .code ≡ 1 → ⊥ = λ o. f .before .if1 .left (ap (λ (x : Stepped). x .answer .code) e ∙ o) in
+    let i = fits-true (a .args .at) r q (n .step-by .result .answer) (sym (f .is-fitting .ensures) ∙ not-false _ (p .before .if2 .left)) in
+    let e = read-step (a .args .self) s (a .args .reading) _ (a .pre .0) (n .step-by .ensures) in
+    let l : codeNumber (step (a .args .self) s .answer .code) ≡ 1 → ⊥ = λ o. f .before .if1 .left (f .before .before .number .ensures ∙ ap (λ (x : Stepped). codeNumber (x .answer .code)) e ∙ o) in
     let j = subst (λ (x : Stepped). Fits (a .args .at) r q (x .answer)) e i in
     let u = done-turn (a .args .at) r q (a .args .self) s l j ∙ ap (stepDone (a .args .at) s) (sym e) in
-    let t = turns-done _ (a .args .at) (p .used-by .result) _ _ s (n .arrived .result) _ _ _ _ _ u (p .used-by .ensures .0) (w .put-row .ensures .0) (w .put-row .ensures .1) (m .put-sends .ensures .0) (m .put-sends .ensures .1) (c .next-of .ensures) in
+    let t = turns-done _ (a .args .at) (p .used-by .result) _ _ s (n .step-by .result) _ _ _ _ _ u (p .used-by .ensures .0) (w .put-row .ensures .0) (w .put-row .ensures .1) (m .put-sends .ensures .0) (m .put-sends .ensures .1) (c .next-of .ensures) in
     (t .answer, t .rows, t .sends)
 
 pub turn-spec : {M : Type 1} → statement M
 turn-spec =
     tie.close
     (tie.spec
-    arrival-by-requires
-    arrived-requires
+    step-by-requires
+    number-requires
     needed-by-requires
     ends-requires
     returns

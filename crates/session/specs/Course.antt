@@ -1,0 +1,48 @@
+-- What the laws of the session speak of (document 01, "The session"); `proofs/SessionLaws.antt` has the laws. E is `expected`, M is `ahead`.
+use Prim.Native.Nat.{ℕ, _+_, _≤_}
+use mathlib.Core.Path.{_≡_}
+use mathlib.Core.List.{List}
+use Rattle.session.specs.declared.state.Code.{Code}
+use Rattle.session.specs.declared.state.Row.{Row}
+use Rattle.session.specs.declared.state.Row.the-variants as row
+use Rattle.session.specs.declared.state.Send.the-variants as send
+use Rattle.session.specs.declared.state.Session.{Session}
+use Rattle.session.specs.declared.state.State.the-variants.{Down, Waiting}
+use Rattle.session.specs.declared.state.Stepped.{Stepped}
+use Rattle.session.specs.Day.{fresh, saved, connect, drop, step}
+use Rattle.session.specs.State.{last}
+
+-- E after a row: a business or session row for n makes it n + 1, a filled or reset row one past its last number (which is New - 1), and without a row it
+-- stays
+unfoldable pub expectedBy : ℕ → Row → ℕ
+expectedBy e row.Nothing = e
+expectedBy e (row.Business n) = n + 1
+expectedBy e (row.Session n) = n + 1
+expectedBy e (row.Filled first final) = final + 1
+expectedBy e (row.Reset first final) = final + 1
+
+-- t can follow s: after a step on some bytes, after Connect with some password, after Drop
+pub data Follows (s : Session) : Session → Type 0 where
+  stepped : (b : List ℕ) → Follows s (step s b .session)
+  connected : (password : List ℕ) → Follows s (connect s password .session)
+  dropped : Follows s (drop s)
+
+-- the sessions of a day that began fresh, or from an E and O of 32 bits
+pub data Reached : Session → Type 0 where
+  begun : (compId : List ℕ) → Reached (fresh compId .session)
+  resumed : (compId : List ℕ) {e o : ℕ} → e ≤ last → o ≤ last → Reached (saved compId e o .session)
+  on : {s t : Session} → Reached s → Follows s t → Reached t
+
+-- M is 0 whenever the state is Down or Waiting, and otherwise 0 or at least E
+pub record Ahead (s : Session) : Type 0 where
+  pub down : s .state ≡ Down → s .ahead ≡ 0
+  pub waiting : s .state ≡ Waiting → s .ahead ≡ 0
+  pub up : 1 ≤ s .ahead → s .expected ≤ s .ahead
+
+-- the session is as it was, nothing is sent, there is no row: the code is all
+pub record Untouched (s : Session) (k : Code) (r : Stepped) : Type 0 where
+  pub session : r .session ≡ s
+  pub code : r .answer .code ≡ k
+  pub first : r .answer .first ≡ send.Nothing
+  pub second : r .answer .second ≡ send.Nothing
+  pub row : r .answer .row ≡ row.Nothing

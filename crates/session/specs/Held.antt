@@ -1,0 +1,67 @@
+-- A session told in numbers (docs/DECISIONS.md, 27): which numbers some day has (document 01, "The session").
+use Prim.Native.Nat.{ℕ}
+use mathlib.Core.Bool.{Bool, true, false, cond}
+use mathlib.Core.List.{List, [], _∷_}
+use lib.Dec.{eqb, leb}
+use lib.ListN.{length, drop}
+use Rattle.wire.specs.Text.{fixedPart}
+use Rattle.message.specs.Frame.{compIdBytes}
+use Rattle.message.specs.Vet.{goodCompId}
+use Rattle.session.specs.declared.day.Made.{Made}
+use Rattle.session.specs.declared.state.Code.the-variants.{Good, Halted}
+use Rattle.session.specs.declared.state.Halt.the-variants.{NotASession}
+use Rattle.session.specs.declared.state.State.{State}
+use Rattle.session.specs.declared.state.State.the-variants.{Down, Waiting, Live}
+use Rattle.session.specs.Day.{notMade}
+
+-- the states' numbers, and back; a number above 2 is refused
+unfoldable pub stateNumber : State → ℕ
+stateNumber Down = 0
+stateNumber Waiting = 1
+stateNumber Live = 2
+
+unfoldable pub stateAt : ℕ → State
+stateAt n = cond (eqb n 0) Down (cond (eqb n 1) Waiting Live)
+
+unfoldable pub allZero : List ℕ → Bool
+allZero [] = true
+allZero (b ∷ bs) = cond (eqb b 0) (allZero bs) false
+
+-- a good Comp ID, and zeros after it
+unfoldable pub isPlainCompId : List ℕ → Bool
+isPlainCompId ours = cond (goodCompId (fixedPart compIdBytes ours)) (allZero (drop (length (fixedPart compIdBytes ours)) ours)) false
+
+-- Connect's Logon has used up our number 1
+unfoldable pub leastOwn : ℕ → ℕ
+leastOwn state = cond (eqb state 0) 1 2
+
+-- M is 0; or the session is Live, M is not below E and above 1, since it was above an E of 1 or more, and O is at least 3, since the Resend
+-- Request has used up a number too
+unfoldable pub isAhead : ℕ → ℕ → ℕ → ℕ → Bool
+isAhead state e o m =
+    cond (eqb m 0) true (
+    cond (eqb state 2) (
+    cond (leb 2 m) (
+    cond (leb e m) (leb 3 o)
+    false)
+    false)
+    false)
+
+-- whether some day has such a session
+unfoldable pub isHeld : ℕ → List ℕ → ℕ → ℕ → ℕ → Bool
+isHeld state ours e o m =
+    cond (leb state 2) (
+    cond (isPlainCompId ours) (
+    cond (leb 1 e) (
+    cond (leb (leastOwn state) o) (isAhead state e o m)
+    false)
+    false)
+    false)
+    false
+
+-- it is taken in, and any other refused with 90
+unfoldable pub held : ℕ → List ℕ → ℕ → ℕ → ℕ → Made
+held state ours e o m =
+    cond (isHeld state ours e o m)
+    (record { code = Good; session = record { state = stateAt state; ours = ours; expected = e; own = o; ahead = m } })
+    (notMade (Halted NotASession))
