@@ -8,6 +8,7 @@ use lib.ListN.{length, getD, drop}
 use borrow.Author.Tests.{le-leb}
 use Rattle.wire.specs.Laying.{laid}
 use Rattle.wire.specs.Number.{Bytes}
+use Rattle.wire.proofs.TestLaws.{either}
 use Rattle.message.specs.Refusal.{numberOf}
 use Rattle.session.specs.declared.state.Code.{Code}
 use Rattle.session.specs.declared.state.Code.the-variants.{Good}
@@ -16,10 +17,9 @@ use Rattle.session.specs.declared.state.Send.the-variants.{Nothing}
 use Rattle.session.specs.declared.state.State.{State}
 use Rattle.session.specs.declared.state.State.the-variants.{Down, Waiting, Live}
 use Rattle.session.specs.State.{last, haltNumber, codeNumber}
-use Rattle.session.specs.Steps.{sendNumbers, course, hasRoom, refusalIn, calledBy, called, slotsBy, reportOf, steps, sendsAfter}
-use Rattle.session.proofs.CallLaws.{waiting-up, live-up}
-use Rattle.session.proofs.Effect.{either}
-use Rattle.session.proofs.SingleLaws.{course-sends}
+use Rattle.calls.specs.Steps.{sendNumbers, course, hasRoom, refusalIn, calledBy, called, slotsBy, reportOf, steps, sendsAfter}
+use Rattle.calls.proofs.CallLaws.{waiting-up, live-up}
+use Rattle.calls.proofs.SingleLaws.{course-sends}
 use Rattle.capi.specs.declared.shape.CSession.{CSession}
 use Rattle.capi.specs.Entries.{sendFront, sendAt}
 use Rattle.capi.specs.Sessions.{sessionIn, isSession, isSend, shownSend}

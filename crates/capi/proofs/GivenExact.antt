@@ -15,7 +15,7 @@ use Rattle.session.specs.declared.state.Send.the-variants.{Nothing, Heartbeat, 
 use Rattle.session.specs.Held.{stateAt, isPlainCompId, leastOwn, isAhead, isHeld}
 use Rattle.session.specs.Rules.{isBadRange, fillEnd, slots, ask, higher, testRequest, resendRequest, equal, numbered, live, forUs, ruledIn, ruled}
 use Rattle.session.specs.State.{last, told, leave, stop, take}
-use Rattle.session.proofs.GivenLaws.{Given, nothing, heartbeat, logout, gap-fill, resend-request}
+use Rattle.capi.proofs.GivenLaws.{Given, nothing, heartbeat, logout, gap-fill, resend-request}
 use Rattle.capi.specs.declared.shape.CSend.{CSend}
 use Rattle.capi.specs.declared.shape.CSession.{CSession}
 use Rattle.capi.specs.Arising.{Arises}
@@ -67,7 +67,7 @@ module _ (ours : List ℕ) (plain : isPlainCompId ours ≡ true) where
 
   -- and on one with the number after it
   gives-request : (n start : ℕ) → n < last → ruled (sessionIn (liveAt start n)) (says (start + 1) content.Heartbeat) .answer .first ≡ ResendRequest n start 0
-  unfolding stateAt ruled ruledIn forUs live numbered higher ask slots
+  unfolding stateAt ruled ruledIn forUs live numbered higher ask slots told
   gives-request n start l =
       let a : ltb (start + 1) start ≡ false = le-ltb (start + 1) start (omega arith) in
       let b : ltb start (start + 1) ≡ true = lt-ltb start (start + 1) (omega arith) in

@@ -9,6 +9,7 @@ use native.Mathlib.Omega.{arith}
 use lib.Dec.{eqb}
 use lib.ListN.{length}
 use Rattle.wire.specs.Text.{fixedPart}
+use Rattle.wire.proofs.TestLaws.{either}
 use Rattle.message.specs.declared.refusal.Refusal.the-variants.{BadField}
 use Rattle.message.specs.Refusal.{numberOf}
 use Rattle.message.specs.Vet.{goodCompId}
@@ -18,9 +19,8 @@ use Rattle.session.specs.declared.state.Session.{Session}
 use Rattle.session.specs.declared.state.State.{State}
 use Rattle.session.specs.declared.state.State.the-variants.{Down, Waiting, Live}
 use Rattle.session.specs.Day.{notConnected, connectIn, connect}
-use Rattle.session.specs.Held.{stateNumber, stateAt}
+use Rattle.session.specs.Held.{stateAt}
 use Rattle.session.specs.State.{last, haltNumber, codeNumber, moved}
-use Rattle.session.proofs.Effect.{either}
 use Rattle.writer.specs.declared.write.Written.the-variants.{Wrote}
 use Rattle.writer.specs.Send.{logon, logonOf, logonSent}
 use Rattle.writer.proofs.SizeLaws.{logon-written}
@@ -93,11 +93,11 @@ module _ (c : CSession) (password : List ℕ) (z : connectC c password .refusal 
     -- these are what the Logon bears
     waiting-answers : logonC (shownSession (waits (sessionIn c) .session)) password d
         ≡ shownWritten (logonOf (c .own) password (c .expected) (fixedPart 12 (c .ours)) d)
-    unfolding logonC stateNumber
+    unfolding logonC
     waiting-answers = rw waiting-passes (ap (λ (n : ℕ). shownWritten (logonOf n password (c .expected) (fixedPart 12 (c .ours)) d)) back)
 
     waiting-lays : logonSentC (shownSession (waits (sessionIn c) .session)) password d ≡ logonSent (c .own) password (c .expected) (fixedPart 12 (c .ours)) d
-    unfolding logonSentC stateNumber
+    unfolding logonSentC
     waiting-lays = rw waiting-passes (ap (λ (n : ℕ). logonSent n password (c .expected) (fixedPart 12 (c .ours)) d) back)
 
     pub logon-answers : logonC (connectC c password .session) password d

@@ -12,6 +12,7 @@ use lib.ListN.{length, getD, replicate, length-replicate}
 use borrow.Author.Tests.{le-leb, lt-ltb, leb-true, ltb-true, eqb-true}
 use Rattle.wire.specs.Number.{Bytes}
 use Rattle.wire.specs.Text.{fixedPart}
+use Rattle.wire.proofs.TestLaws.{both, either}
 use Rattle.message.specs.declared.refusal.Refusal.the-variants.{NoRoom}
 use Rattle.message.specs.declared.vet.Vetted.{Vetted}
 use Rattle.message.specs.Refusal.{numberOf, besidesOf}
@@ -20,11 +21,9 @@ use Rattle.session.specs.declared.state.Send.{Send}
 use Rattle.session.specs.declared.state.Send.the-variants.{Nothing, Heartbeat, Logout, GapFill, ResendRequest}
 use Rattle.session.specs.Held.{isPlainCompId}
 use Rattle.session.specs.State.{last, mostId, told}
-use Rattle.session.specs.Steps.{called}
-use Rattle.session.proofs.ArrivalLaws.{both}
-use Rattle.session.proofs.Effect.{either}
-use Rattle.session.proofs.GivenCalls.{call-gives}
-use Rattle.session.proofs.GivenLaws.{Given, nothing, heartbeat, logout, gap-fill, resend-request, step-gives}
+use Rattle.calls.specs.Steps.{called}
+use Rattle.capi.proofs.GivenCalls.{call-gives}
+use Rattle.capi.proofs.GivenLaws.{Given, nothing, heartbeat, logout, gap-fill, resend-request, step-gives}
 use Rattle.writer.specs.declared.write.Written.the-variants.{Wrote, Refused}
 use Rattle.writer.specs.Send.{Outgoing, sendOf}
 use Rattle.writer.specs.Write.{writeLength, writeVetted, writeOf}
@@ -36,7 +35,7 @@ use Rattle.capi.specs.declared.shape.CWritten.{CWritten}
 use Rattle.capi.specs.Sessions.{sessionIn, isSession, toSend, shownSend, shownStepped, stepC, isOurNumber, isSend, outgoingOf, sendBy, sendC}
 use Rattle.capi.specs.Sizes.{sendSize, byRoom}
 use Rattle.capi.specs.Writing.{wrote, shownWritten}
-use Rattle.capi.proofs.SendLaws.{and-both}
+use Rattle.session.proofs.TurnLaws.{and-true}
 use Rattle.capi.proofs.SessionLaws.{checked, standing-in, step-passes}
 
 -- what can be given passes
@@ -59,37 +58,37 @@ module _ (x : CSend) where
 
   ours : isOurNumber (x .number) ≡ true → (2 ≤ x .number) × (x .number < last)
   unfolding isOurNumber
-  ours h = let p = and-both (leb 2 (x .number)) (ltb (x .number) last) h in (leb-true 2 (x .number) (p .0), ltb-true (x .number) last (p .1))
+  ours h = let p = and-true (leb 2 (x .number)) (ltb (x .number) last) h in (leb-true 2 (x .number) (p .0), ltb-true (x .number) last (p .1))
 
   pub passes-shows : isSend x ≡ true → Shows x
   unfolding isSend shownSend told
   passes-shows =
       let P : Bool → Type 0 = λ b. b ≡ true → Shows x in
       either P (eqb (x .kind) 0)
-      (λ k h. let p = and-both _ (eqb (x .second) 0) h in
-      let q = and-both (eqb (x .number) 0) (eqb (x .first) 0) (p .0) in
+      (λ k h. let p = and-true _ (eqb (x .second) 0) h in
+      let q = and-true (eqb (x .number) 0) (eqb (x .first) 0) (p .0) in
       shows Nothing nothing (same 0 0 0 0 (eqb-true (x .kind) 0 k) (eqb-true (x .number) 0 (q .0)) (eqb-true (x .first) 0 (q .1)) (eqb-true (x .second) 0 (p .1))))
       (λ z. either P (eqb (x .kind) 1)
-      (λ k h. let p = and-both _ (eqb (x .second) 0) h in
-      let q = and-both (isOurNumber (x .number)) (leb (x .first) mostId) (p .0) in
+      (λ k h. let p = and-true _ (eqb (x .second) 0) h in
+      let q = and-true (isOurNumber (x .number)) (leb (x .first) mostId) (p .0) in
       let n = ours (q .0) in
       shows (Heartbeat (x .number) (x .first)) (heartbeat (n .0) (n .1) (leb-true (x .first) mostId (q .1)))
       (same 1 (x .number) (x .first) 0 (eqb-true (x .kind) 1 k) refl refl (eqb-true (x .second) 0 (p .1))))
       (λ z. either P (eqb (x .kind) 2)
-      (λ k h. let p = and-both _ (eqb (x .second) 0) h in
-      let q = and-both (isOurNumber (x .number)) (eqb (x .first) 0) (p .0) in
+      (λ k h. let p = and-true _ (eqb (x .second) 0) h in
+      let q = and-true (isOurNumber (x .number)) (eqb (x .first) 0) (p .0) in
       let n = ours (q .0) in
       shows (Logout (x .number)) (logout (n .0) (n .1))
       (same 2 (x .number) 0 0 (eqb-true (x .kind) 2 k) refl (eqb-true (x .first) 0 (q .1)) (eqb-true (x .second) 0 (p .1))))
       (λ z. either P (eqb (x .kind) 3)
-      (λ k h. let p = and-both _ (eqb (x .second) 0) h in
-      let q = and-both (leb 1 (x .number)) (ltb (x .number) (x .first)) (p .0) in
+      (λ k h. let p = and-true _ (eqb (x .second) 0) h in
+      let q = and-true (leb 1 (x .number)) (ltb (x .number) (x .first)) (p .0) in
       shows (GapFill (x .number) (x .first)) (gap-fill (leb-true 1 (x .number) (q .0)) (ltb-true (x .number) (x .first) (q .1)))
       (same 3 (x .number) (x .first) 0 (eqb-true (x .kind) 3 k) refl refl (eqb-true (x .second) 0 (p .1))))
       (λ z. either P (eqb (x .kind) 4)
-      (λ k h. let p = and-both _ (eqb (x .second) 0) h in
-      let q = and-both (isOurNumber (x .number)) (leb 1 (x .first) && ltb (x .first) last) (p .0) in
-      let r = and-both (leb 1 (x .first)) (ltb (x .first) last) (q .1) in
+      (λ k h. let p = and-true _ (eqb (x .second) 0) h in
+      let q = and-true (isOurNumber (x .number)) (leb 1 (x .first) && ltb (x .first) last) (p .0) in
+      let r = and-true (leb 1 (x .first)) (ltb (x .first) last) (q .1) in
       let n = ours (q .0) in
       shows (ResendRequest (x .number) (x .first) 0)
       (resend-request (n .0) (n .1) (leb-true 1 (x .first) (r .0)) (ltb-true (x .first) last (r .1)))

@@ -6,6 +6,7 @@ use mathlib.Core.List.{List}
 use lib.Dec.{eqb}
 use Rattle.wire.specs.Text.{isCharacter, allCharacters, onePast, null, ended, fixedText, charactersOf, fixedPart}
 use Rattle.wire.specs.Search.{firstFrom}
+use Rattle.wire.proofs.TestLaws.{either}
 use Rattle.message.specs.Vet.{goodCompId}
 use Rattle.message.specs.declared.refusal.Refusal.the-variants.{BadHeader}
 use Rattle.session.specs.declared.day.Made.{Made}
@@ -13,14 +14,13 @@ use Rattle.session.specs.declared.state.Code.{Code}
 use Rattle.session.specs.declared.state.Code.the-variants as code
 use Rattle.session.specs.declared.state.Halt.the-variants as halt
 use Rattle.session.specs.Day.{notMade, day, fresh, saved}
-use Rattle.session.proofs.Effect.{either}
-use Rattle.session.specs.Held.{stateNumber, isPlainCompId, isHeld}
+use Rattle.session.specs.Held.{isPlainCompId, isHeld}
 use Rattle.session.specs.State.{codeNumber}
 use Rattle.capi.specs.Sessions.{isSession, shownMade, freshC, savedC}
 
 -- the empty Comp ID beside a refusal
 not-made : (k : Code) → isSession (shownMade (notMade k) .session) ≡ false
-unfolding isSession isHeld stateNumber shownMade notMade isPlainCompId goodCompId fixedPart fixedText charactersOf ended null onePast allCharacters isCharacter firstFrom
+unfolding isSession isHeld shownMade notMade isPlainCompId goodCompId fixedPart fixedText charactersOf ended null onePast allCharacters isCharacter firstFrom
 not-made k = refl
 
 refused-day : (compId : List ℕ) (e o : ℕ) → (shownMade (day compId e o) .refusal ≡ 0 → ⊥) → isSession (shownMade (day compId e o) .session) ≡ false

@@ -2,7 +2,7 @@
 use Prim.Native.Nat.{ℕ, _*_}
 use mathlib.Core.List.{List}
 use lib.ListN.{getD, drop}
-use Rattle.session.specs.Steps.{aSend}
+use Rattle.calls.specs.Steps.{aSend}
 use Rattle.capi.specs.declared.shape.CSend.{CSend}
 use Rattle.capi.specs.Sessions.{toSend}
 

@@ -4,11 +4,11 @@ use mathlib.Core.Bool.{cond}
 use mathlib.Core.Path.{_≡_}
 use mathlib.Core.List.{List}
 use lib.ListN.{length}
-use Rattle.session.specs.declared.steps.Done.{Done}
-use Rattle.session.specs.declared.steps.Ended.{Ended}
-use Rattle.session.specs.declared.steps.Ended.the-variants.{Short, Down, NoSlot}
+use Rattle.calls.specs.declared.Done.{Done}
+use Rattle.calls.specs.declared.Ended.{Ended}
+use Rattle.calls.specs.declared.Ended.the-variants.{Short, Down, NoSlot}
 use Rattle.session.specs.State.{codeNumber, codeBesides}
-use Rattle.session.specs.Steps.{steps, rowsAfter, sendsAfter}
+use Rattle.calls.specs.Steps.{steps, rowsAfter, sendsAfter}
 use Rattle.capi.specs.declared.shape.CDone.{CDone}
 use Rattle.capi.specs.declared.shape.CSession.{CSession}
 use Rattle.capi.specs.Sessions.{shownSession, sessionIn, isSession, notASession}

@@ -9,6 +9,9 @@ use crate::shape::CStepped;
 use crate::shape::CWritten;
 use crate::write::written_shown;
 use crate::write::wrote;
+use calls::Done;
+use calls::Ended;
+use calls::steps;
 use message::frame::COMP_ID_BYTES;
 use message::frame::front_length;
 use message::read::read;
@@ -34,8 +37,6 @@ use session::state::first_of;
 use session::state::last_of;
 use session::state::sort_number;
 use session::state::told;
-use session::steps::Done;
-use session::steps::Ended;
 use wire::text::fixed_part;
 use writer::send::put_gap_fill;
 use writer::send::put_heartbeat_for;
@@ -44,7 +45,6 @@ use writer::send::put_logout;
 use writer::send::put_resend_request;
 ghost use mathlib.Core.Path.{_≡_};
 ghost use Prim.Native.Nat.{_+_, _<_};
-ghost use lib.ListN.{length};
 ghost use Rattle.message.specs.Frame.{frontLength};
 ghost use Rattle.session.specs.declared.state.Row.the-variants.{Business};
 ghost use Rattle.session.specs.declared.state.Send.the-variants.{Nothing};
@@ -262,9 +262,9 @@ fn live_step(c: CSession, session: Session, s: &[u8]) -> CStepped
     ensures { λ r. ⌜ r ≡ shownStepped (frontLength (now (s .entry))) (step (sessionIn c) (now (s .entry))) ⌝ }
 {
     let reading = read(s);
-    let size = session.due_length(s, reading);
-    if size != 0 {
-        return in_turn(c, size);
+    let due = session.take_due(s, reading);
+    if due.length != 0 {
+        return in_turn(c, due.length);
     }
     stepped_shown(session.step_by(s, reading), front_length(s))
 }
@@ -354,7 +354,7 @@ pub fn steps_c(c: CSession, s: &[u8], rows: &mut [u32], sends: &mut [u32]) -> CD
             besides: 0,
         };
     }
-    done_shown(session.steps(s, rows, sends))
+    done_shown(steps(session, s, rows, sends))
 }
 
 // Whether a message of ours can bear this number.

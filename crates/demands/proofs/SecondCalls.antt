@@ -23,12 +23,12 @@ use Rattle.session.specs.declared.state.Row.the-variants as row
 use Rattle.session.specs.declared.state.Send.the-variants as send
 use Rattle.session.specs.declared.state.Session.{Session}
 use Rattle.session.specs.declared.state.State.the-variants.{Live}
-use Rattle.session.specs.declared.steps.Ended.{Ended}
-use Rattle.session.specs.declared.steps.Ended.the-variants.{Short}
+use Rattle.calls.specs.declared.Ended.{Ended}
+use Rattle.calls.specs.declared.Ended.the-variants.{Short}
 use Rattle.session.specs.Arrival.{arrivalBy, arrivalOf}
 use Rattle.session.specs.Day.{stepBy, refused, arrived, stepIn, step}
 use Rattle.session.specs.State.{codeNumber, last, sortNumber, told, unmoved, take}
-use Rattle.session.specs.Steps.{
+use Rattle.calls.specs.Steps.{
   rowAt,
   sendIn,
   sendsOf,

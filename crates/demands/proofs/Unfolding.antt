@@ -14,6 +14,7 @@ use native.Mathlib.Omega.{arith}
 use lib.Dec.{eqb}
 use lib.ListN.{length, take, drop}
 use lib.Seq.{drop-drop}
+use Rattle.wire.proofs.TestLaws.{either}
 use Rattle.message.specs.declared.read.Reading.{Reading}
 use Rattle.message.specs.declared.read.Reading.the-variants as reading
 use Rattle.message.specs.Frame.{frontLength}
@@ -26,11 +27,11 @@ use Rattle.session.specs.declared.state.Session.{Session}
 use Rattle.session.specs.declared.state.Stepped.{Stepped}
 use Rattle.session.specs.declared.state.State.{State}
 use Rattle.session.specs.declared.state.State.the-variants.{Down, Waiting, Live}
-use Rattle.session.specs.declared.steps.Ended.{Ended}
+use Rattle.calls.specs.declared.Ended.{Ended}
 use Rattle.session.specs.Arrival.{arrivalOf}
 use Rattle.session.specs.Day.{step}
 use Rattle.session.specs.State.{codeNumber, sortNumber}
-use Rattle.session.specs.Steps.{
+use Rattle.calls.specs.Steps.{
   Placed,
   rowAt,
   Did,
@@ -48,7 +49,7 @@ use Rattle.session.specs.Steps.{
   calledBy,
   called,
 }
-use Rattle.session.proofs.Effect.{either, Moves, still, business, session, filled, reset, step-effect, good-arrives}
+use Rattle.session.proofs.Effect.{Moves, still, business, session, filled, reset, step-effect, good-arrives}
 use Rattle.session.proofs.FrontLaws.{front-good}
 use Rattle.demands.specs.Content.{Content, said}
 use Rattle.demands.specs.Gateway.{Fair, lends, refused, AllFair, none, more, after, handedBy, handed, afterAll, handedAll}

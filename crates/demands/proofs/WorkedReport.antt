@@ -38,7 +38,7 @@ use Rattle.message.specs.Refusal.{numberOf}
 use Rattle.session.specs.declared.state.Session.{Session}
 use Rattle.session.specs.declared.state.State.the-variants.{Live}
 use Rattle.session.specs.Arrival.{upTo, isYes, sequenceReset as sequenceResetContent, contentOf, sameBytes, isOurs, messageIn, arrivalBy, arrivalOf}
-use Rattle.session.specs.State.{unmoved, aheadAt, take}
+use Rattle.session.specs.State.{told, unmoved, aheadAt, take}
 use Rattle.session.specs.Rules.{forUs, fillTo, logon as logonRule, waiting, slots, ask, higher, gapFill, equal, numbered, live, lower, ruledIn, ruled}
 use Rattle.session.specs.Day.{stepBy, day, fresh, connectIn, connect, drop, refused as refusedRule, arrived, stepIn, step}
 use Rattle.demands.specs.Content.{Said, Content, fieldsAt, contentIn, saidBy, said, isBusiness}
@@ -208,7 +208,7 @@ unfolding bits numberOfBits messageBits polynomial differ less divided complemen
     goodCompId goodHeader vetWalk vetMissing vetUnknown vetFields vet readVetted readWhole readFramed readOf
     upTo isYes sequenceResetContent contentOf fieldsAt contentIn saidBy said bytesOf logonBytes businessBytes heartbeatBytes fillBytes logonSaid businessSaid
     reportFields reportBytes reportSaid
-    numberOf sameBytes isOurs messageIn arrivalBy arrivalOf unmoved aheadAt take fillTo logonRule waiting slots ask higher gapFill equal numbered live lower forUs ruledIn ruled
+    numberOf sameBytes isOurs messageIn arrivalBy arrivalOf unmoved aheadAt take fillTo logonRule waiting told slots ask higher gapFill equal numbered live lower forUs ruledIn ruled
     day fresh connectIn connect drop refusedRule arrived stepIn stepBy step after handedBy handed afterAll handedAll
     published later workedDay aheadDay answerRun lendAll below businessOf isBusiness heartbeatSaid
 worked-on = record {

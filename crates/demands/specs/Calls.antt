@@ -6,8 +6,8 @@ use lib.ListN.{length, take, drop}
 use Rattle.message.specs.Frame.{frontLength}
 use Rattle.session.specs.declared.state.Session.{Session}
 use Rattle.session.specs.declared.state.State.the-variants.{Live}
-use Rattle.session.specs.declared.steps.Ended.the-variants.{Short}
-use Rattle.session.specs.Steps.{Placed, called}
+use Rattle.calls.specs.declared.Ended.the-variants.{Short}
+use Rattle.calls.specs.Steps.{Placed, called}
 use Rattle.demands.specs.Content.{Content}
 use Rattle.demands.specs.Gateway.{businessOf, Event, lends, Fair, after, handedBy, handed}
 use Rattle.demands.specs.Run.{saidAll}

@@ -6,6 +6,10 @@
 // The capture is read from FILE, or from standard input. comp is our Comp ID, by default that of the first message whose
 // checksum is right; expected the number expected next at its first byte, by default 1; own the number of our Logon, by
 // default 1.
+use calls::A_ROW;
+use calls::A_SEND;
+use calls::Done;
+use calls::steps;
 use libc::STDERR_FILENO;
 use libc::STDIN_FILENO;
 use libc::STDOUT_FILENO;
@@ -36,9 +40,6 @@ use session::state::Session;
 use session::state::State;
 use session::state::Stepped;
 use session::state::last_of;
-use session::steps::A_ROW;
-use session::steps::A_SEND;
-use session::steps::Done;
 use spelt::put_amount;
 use spelt::put_number;
 use tables::dictionary::Field;
@@ -563,10 +564,10 @@ fn is_told(done: Done, numbers: &[u32]) -> bool {
 
 // One call over all messages that stand in the buffer. Where its rows do not tell all that it did, it is as if it had not
 // been made, and its messages go one by one: the first at once.
-fn steps(view: View, buf: &[u8], out: &mut [u8], rows: &mut [u32], sends: &mut [u32]) -> View {
+fn by_calls(view: View, buf: &[u8], out: &mut [u8], rows: &mut [u32], sends: &mut [u32]) -> View {
     let s = left(buf, view.from, view.unread);
     let session = view.session;
-    let done = session.steps(s, rows, sends);
+    let done = steps(session, s, rows, sends);
     let next = done.session;
     if !is_told(done, rows) {
         return step(view.by_singles(done.used), buf, out);
@@ -580,7 +581,7 @@ fn advance(view: View, buf: &[u8], out: &mut [u8], rows: &mut [u32], sends: &mut
     if 0 < view.single {
         return step(view, buf, out);
     }
-    steps(view, buf, out, rows, sends)
+    by_calls(view, buf, out, rows, sends)
 }
 
 // The session connects with this Comp ID, and its Logon is sent. A refusal ends the view.

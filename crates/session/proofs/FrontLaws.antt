@@ -15,6 +15,7 @@ use Rattle.fields.specs.declared.walk.Walked.{Walked}
 use Rattle.fields.specs.declared.walk.Walked.the-variants.{Done, BadAt}
 use Rattle.fields.specs.Sets.{lowestUnknown, lowestMissing}
 use Rattle.fields.specs.Walk.{walkOf}
+use Rattle.wire.proofs.TestLaws.{either}
 use Rattle.message.specs.declared.frame.Framed.{Framed}
 use Rattle.message.specs.declared.frame.Framed.the-variants as frame
 use Rattle.message.specs.declared.frame.Header.{Header}
@@ -28,7 +29,6 @@ use Rattle.message.specs.Read.{readVetted, readWhole, readFramed, readOf}
 use Rattle.message.specs.Refusal.{numberOf}
 use Rattle.message.specs.Vet.{goodHeader, vetWalk, vetMissing, vetUnknown, vetFields, vet}
 use Rattle.message.proofs.FrameLaws.{framed-by, front-short, front-other, front-by}
-use Rattle.session.proofs.Effect.{either}
 
 module _ (s : List ℕ) (h : Header) (n : ℕ) where
   by-vet : (k : ℕ) (v : Vetted) → readVetted (headerIn s) k v ≡ Good h n → k ≡ n

@@ -10,6 +10,7 @@ use lib.Dec.{eqb, leb, ltb}
 use lib.ListN.{length, getD}
 use lib.Seq.{take-length}
 use borrow.Author.Tests.{leb-true, ne-eqb, eqb-true}
+use Rattle.wire.proofs.TestLaws.{either}
 use Rattle.message.specs.declared.frame.Framed.the-variants as frame
 use Rattle.message.specs.declared.frame.Header.{Header}
 use Rattle.message.specs.declared.read.Reading.{Reading}
@@ -33,7 +34,6 @@ use Rattle.session.specs.declared.state.Stepped.{Stepped}
 use Rattle.session.specs.Arrival.{isOurs, messageIn, arrivalBy, arrivalOf}
 use Rattle.session.specs.Day.{refused, arrived, stepIn, stepBy, step}
 use Rattle.session.specs.State.{last, codeNumber, leave}
-use Rattle.session.proofs.Effect.{either}
 use Rattle.session.proofs.SessionLaws.{spoiled-nothing}
 
 -- what the frame can find: a message of 58 bytes or more, its checksum right or spoiled; or it refuses with 1, 2 or 3

@@ -11,11 +11,12 @@ use Rattle.fields.specs.declared.value.Value.{Value}
 use Rattle.fields.specs.declared.value.Value.the-variants as value
 use Rattle.tables.specs.Tables.{rowOf}
 use Rattle.fields.specs.Value.{valueOf}
+use Rattle.wire.proofs.TestLaws.{either}
 use Rattle.session.specs.declared.arrival.Content.{Content}
 use Rattle.session.specs.declared.arrival.Content.the-variants.{Reset, GapFill, Business}
 use Rattle.session.specs.Arrival.{upTo, isYes, sequenceReset, contentOf}
 use Rattle.session.specs.State.{last}
-use Rattle.session.proofs.Effect.{either, isSession}
+use Rattle.session.proofs.Effect.{isSession}
 
 -- 4 is a gap fill or a reset, with a New of 32 bits; 9 and above is business; the rest is the session's
 pub data Sorted (messagetype : ℕ) : Content → Type 0 where

@@ -1,4 +1,5 @@
--- What the laws of the session speak of (document 01, "The session"); `proofs/SessionLaws.antt` has the laws. E is `expected`, M is `ahead`.
+-- What the laws of the session speak of (document 01, "The session"); `proofs/SessionLaws.antt` has the laws, and `capi/proofs/UpLaws.antt` that of
+-- `Standing`. E is `expected`, M is `ahead`.
 use Prim.Native.Nat.{ℕ, _+_, _≤_}
 use mathlib.Core.Path.{_≡_}
 use mathlib.Core.List.{List}
@@ -38,6 +39,21 @@ pub record Ahead (s : Session) : Type 0 where
   pub down : s .state ≡ Down → s .ahead ≡ 0
   pub waiting : s .state ≡ Waiting → s .ahead ≡ 0
   pub up : 1 ≤ s .ahead → s .expected ≤ s .ahead
+
+-- E and O are numbers of 32 bits, counted from 1
+pub record Sound (s : Session) : Type 0 where
+  pub expected : (1 ≤ s .expected) × (s .expected ≤ last)
+  pub own : (1 ≤ s .own) × (s .own ≤ last)
+  pub ahead : Ahead s
+
+-- E and O are counted from 1; where the session is not Down, Connect's Logon has used up our number 1; and where it has asked for a message, that was
+-- above an E of at least 1, and the Resend Request has used up a number more
+pub record Standing (s : Session) : Type 0 where
+  pub expected : 1 ≤ s .expected
+  pub own : 1 ≤ s .own
+  pub ahead : Ahead s
+  pub up : (s .state ≡ Down → ⊥) → 2 ≤ s .own
+  pub asked : 1 ≤ s .ahead → (2 ≤ s .ahead) × (3 ≤ s .own)
 
 -- the session is as it was, nothing is sent, there is no row: the code is all
 pub record Untouched (s : Session) (k : Code) (r : Stepped) : Type 0 where

@@ -1,6 +1,6 @@
 -- A session told in numbers (docs/DECISIONS.md, 27): which numbers some day has (document 01, "The session").
 use Prim.Native.Nat.{ℕ}
-use mathlib.Core.Bool.{Bool, true, false, cond}
+use mathlib.Core.Bool.{Bool, true, false, cond, _&&_, _||_}
 use mathlib.Core.List.{List, [], _∷_}
 use lib.Dec.{eqb, leb}
 use lib.ListN.{length, drop}
@@ -14,14 +14,14 @@ use Rattle.session.specs.declared.state.State.{State}
 use Rattle.session.specs.declared.state.State.the-variants.{Down, Waiting, Live}
 use Rattle.session.specs.Day.{notMade}
 
--- the states' numbers, and back; a number above 2 is refused
-unfoldable pub stateNumber : State → ℕ
+-- the states' numbers, and back; a number above Live's is refused
+abbrev pub stateNumber : State → ℕ
 stateNumber Down = 0
 stateNumber Waiting = 1
 stateNumber Live = 2
 
 unfoldable pub stateAt : ℕ → State
-stateAt n = cond (eqb n 0) Down (cond (eqb n 1) Waiting Live)
+stateAt n = cond (eqb n (stateNumber Down)) Down (cond (eqb n (stateNumber Waiting)) Waiting Live)
 
 unfoldable pub allZero : List ℕ → Bool
 allZero [] = true
@@ -33,31 +33,16 @@ isPlainCompId ours = cond (goodCompId (fixedPart compIdBytes ours)) (allZero (dr
 
 -- Connect's Logon has used up our number 1
 unfoldable pub leastOwn : ℕ → ℕ
-leastOwn state = cond (eqb state 0) 1 2
+leastOwn state = cond (eqb state (stateNumber Down)) 1 2
 
 -- M is 0; or the session is Live, M is not below E and above 1, since it was above an E of 1 or more, and O is at least 3, since the Resend
 -- Request has used up a number too
 unfoldable pub isAhead : ℕ → ℕ → ℕ → ℕ → Bool
-isAhead state e o m =
-    cond (eqb m 0) true (
-    cond (eqb state 2) (
-    cond (leb 2 m) (
-    cond (leb e m) (leb 3 o)
-    false)
-    false)
-    false)
+isAhead state e o m = eqb m 0 || (eqb state (stateNumber Live) && leb 2 m && leb e m && leb 3 o)
 
 -- whether some day has such a session
 unfoldable pub isHeld : ℕ → List ℕ → ℕ → ℕ → ℕ → Bool
-isHeld state ours e o m =
-    cond (leb state 2) (
-    cond (isPlainCompId ours) (
-    cond (leb 1 e) (
-    cond (leb (leastOwn state) o) (isAhead state e o m)
-    false)
-    false)
-    false)
-    false
+isHeld state ours e o m = leb state (stateNumber Live) && isPlainCompId ours && leb 1 e && leb (leastOwn state) o && isAhead state e o m
 
 -- it is taken in, and any other refused with 90
 unfoldable pub held : ℕ → List ℕ → ℕ → ℕ → ℕ → Made

@@ -3,6 +3,7 @@ use crate::state::LAST;
 use crate::state::MOST_ID;
 use crate::state::Session;
 use crate::state::State;
+use crate::state::ahead_at;
 use fields::value::Value;
 use fields::value::value_of;
 use message::frame::COMP_ID_BYTES;
@@ -28,10 +29,10 @@ use wire::number::read_eight;
 use wire::text::fixed_part;
 ghost use mathlib.Core.Path.{_≡_};
 ghost use mathlib.Core.Bool.{true};
-ghost use Prim.Native.Nat.{_≤_};
+ghost use Prim.Native.Nat.{_≤_, _<_};
 ghost use Rattle.wire.specs.Text.{fixedPart};
 ghost use Rattle.message.specs.Frame.{mapIn, bodyIn};
-ghost use Rattle.session.specs.Turn.{isDueHeader, dueLength};
+ghost use Rattle.session.specs.Turn.{isDueHeader, dueLength, dueTaken, takeDue};
 ghost use Rattle.session.specs.Arrival.{sameBytes, upTo, isYes, sequenceReset, contentOf, isOurs, arrivalBy};
 
 // Gap Fill as it is read, where it is 'Y'.
@@ -236,9 +237,16 @@ fn is_due_header(header: Header, e: u32) -> bool
     (LOOKUP_RESPONSE < header.messagetype) & (header.number == e) & (e < LAST)
 }
 
+// Business in its turn, on a Live session: the session that has taken it, and its length. For any other message the session as
+// it was, and 0.
+pub struct Due {
+    pub session: Session,
+    pub length: usize,
+}
+
 impl Session {
     // The length of business in its turn, for a Live session; 0 for any other message.
-    pub fn due_length(self, s: &[u8], reading: Reading) -> usize
+    fn due_length(self, s: &[u8], reading: Reading) -> usize
         ensures { λ r. ⌜ r ≡ dueLength self (now (s .entry)) reading ⌝ }
     {
         let state = self.state;
@@ -257,6 +265,34 @@ impl Session {
                 }
             }
             Reading::Refused(_) => 0,
+        }
+    }
+
+    // Business in its turn is taken.
+    fn due_taken(self) -> Session
+        requires { ⌜ self .expected < 4294967295 ⌝ }
+        ensures { λ r. ⌜ r ≡ dueTaken self ⌝ }
+    {
+        let e = self.expected;
+        let o = self.own;
+        let m = ahead_at(self.ahead, e + 1);
+        self.moved(State::Live, e + 1, o, m)
+    }
+
+    // What was read at the front of s is taken, where it is business in its turn. The rules would do no more.
+    pub fn take_due(self, s: &[u8], reading: Reading) -> Due
+        ensures { λ r. ⌜ r ≡ takeDue self (now (s .entry)) reading ⌝ }
+    {
+        let length = self.due_length(s, reading);
+        if length == 0 {
+            return Due {
+                session: self,
+                length,
+            };
+        }
+        Due {
+            session: self.due_taken(),
+            length,
         }
     }
 }

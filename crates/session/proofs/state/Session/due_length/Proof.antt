@@ -1,7 +1,7 @@
 -- `session::state::Session::due_length` meets its contract: the state, the header and the Comp ID tell.
 use mathlib.Core.Path.{sym}
 use borrow.Author.Needs.{needs}
-use Rattle.session.specs.Turn.{isLive, dueIn, dueLength}
+use Rattle.session.specs.Turn.{dueIn, dueLength}
 use Rattle.session.proofs.state.Session.due_length.Statement.{statement}
 use Rattle.session.proofs.state.Session.due_length.Tie as tie
 
@@ -9,14 +9,14 @@ enum-told : tie.Need-enum-told
 enum-told c = search needs
 
 returns : tie.Need-returns
-unfolding dueLength isLive
+unfolding dueLength
 returns c = simp (c .enum-told .given .1)
 
 enum-told-2 : tie.Need-enum-told-2
 enum-told-2 c = search needs
 
 returns-2 : tie.Need-returns-2
-unfolding dueLength isLive
+unfolding dueLength
 returns-2 c = simp (c .enum-told2 .given .1)
 
 enum-told-3 : tie.Need-enum-told-3
@@ -35,7 +35,7 @@ enum-told-4 : tie.Need-enum-told-4
 enum-told-4 c = search needs
 
 returns-3 : tie.Need-returns-3
-unfolding dueLength isLive dueIn
+unfolding dueLength dueIn
 returns-3 c =
     let o = c .before in
     let d = o .before .before in
@@ -43,7 +43,7 @@ returns-3 c =
     simp (k .before .before .enum-told3 .given .1, k .reading .given .1, sym (d .is-due-header .ensures), sym (o .is-ours .ensures), c .if1 .taken)
 
 returns-4 : tie.Need-returns-4
-unfolding dueLength isLive dueIn
+unfolding dueLength dueIn
 returns-4 c =
     let o = c .before in
     let d = o .before .before in
@@ -51,7 +51,7 @@ returns-4 c =
     simp (k .before .before .enum-told3 .given .1, k .reading .given .1, sym (d .is-due-header .ensures), sym (o .is-ours .ensures), c .if1 .left)
 
 returns-5 : tie.Need-returns-5
-unfolding dueLength isLive dueIn
+unfolding dueLength dueIn
 returns-5 c = simp (c .before .before .enum-told3 .given .1, c .enum-told4 .given .1)
 
 pub due-length-spec : {M : Type 1} → statement M

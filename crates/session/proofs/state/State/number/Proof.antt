@@ -1,5 +1,4 @@
 -- `session::state::State::number` meets its contract.
-use Rattle.session.specs.Held.{stateNumber}
 use borrow.Author.Needs.{needs}
 use Rattle.session.proofs.state.State.number.Statement.{statement}
 use Rattle.session.proofs.state.State.number.Tie as tie
@@ -14,15 +13,12 @@ enum-told-3 : tie.Need-enum-told-3
 enum-told-3 c = search needs
 
 returns : tie.Need-returns
-unfolding stateNumber
 returns c = simp (c .enum-told .given .1)
 
 returns-2 : tie.Need-returns-2
-unfolding stateNumber
 returns-2 c = simp (c .enum-told2 .given .1)
 
 returns-3 : tie.Need-returns-3
-unfolding stateNumber
 returns-3 c = simp (c .enum-told3 .given .1)
 
 pub number-spec : {M : Type 1} → statement M

@@ -1,0 +1,49 @@
+-- A turn as the code does it: what it gives back and what the lists hold then is what the turn says.
+use Prim.Native.Nat.{ℕ}
+use mathlib.Core.Path.{_≡_, refl, sym, ap, subst, _∙_}
+use mathlib.Core.List.{List, []}
+use lib.ListN.{length}
+use Rattle.message.specs.declared.read.Reading.{Reading}
+use Rattle.message.specs.Frame.{frontLength}
+use Rattle.message.specs.Read.{readOf}
+use Rattle.wire.specs.Laying.{laid}
+use Rattle.session.specs.declared.state.Session.{Session}
+use Rattle.session.specs.declared.state.Stepped.{Stepped}
+use Rattle.calls.specs.declared.Ended.{Ended}
+use Rattle.calls.specs.declared.Next.{Next}
+use Rattle.calls.specs.declared.Next.the-variants.{Ends}
+use Rattle.calls.specs.declared.Turned.{Turned}
+use Rattle.session.specs.Day.{stepBy, step}
+use Rattle.calls.specs.Steps.{rowAt, sendsOf, rowNumbers, sendNumbers, Did, did, nextOf, stepDone, turnedBy}
+use Rattle.calls.proofs.SlotLaws.{laid-none}
+
+-- what was read decides the step
+pub read-step : (s : Session) (left : List ℕ) (read : Reading) (x : Stepped) → read ≡ readOf left → x ≡ stepBy s left read → x ≡ step s left
+unfolding step
+read-step s left read x r e = e ∙ ap (stepBy s left) r
+
+-- what a turn is to give back, t, with its lists d and e, which were d₀ and e₀
+pub record Turns (t : Did Next) (x : Turned) (d₀ d e₀ e : List ℕ) : Type 0 where
+  pub answer : x ≡ turnedBy t
+  pub rows : d ≡ laid (rowNumbers (t .rows)) d₀
+  pub sends : e ≡ laid (sendNumbers (t .sends)) e₀
+
+-- the call ends before the step
+pub turns-nothing : (t : Did Next) (s : Session) (why : Ended) (x : Turned) (d e : List ℕ) → t ≡ did s (Ends why) → x ≡ turnedBy (did s (Ends why))
+    → Turns t x d d e e
+unfolding rowNumbers sendNumbers
+turns-nothing t s why x d e p q =
+    subst (λ (y : Did Next). Turns y x d d e e) (sym p) (record { answer = q; rows = laid-none [] d refl .1; sends = laid-none [] e refl .1 })
+
+-- the step is done
+pub turns-done : (t : Did Next) (at n r q : ℕ) (left : List ℕ) (x : Stepped) (next : Next) (d₀ d e₀ e : List ℕ) → t ≡ stepDone at left x
+    → n ≡ frontLength left → r ≡ length (rowNumbers (rowAt at n (x .answer .row))) → d ≡ laid (rowNumbers (rowAt at n (x .answer .row))) d₀
+    → q ≡ length (sendNumbers (sendsOf (x .answer))) → e ≡ laid (sendNumbers (sendsOf (x .answer))) e₀
+    → next ≡ nextOf (x .session .state) (x .answer .code)
+    → Turns t (record { session = x .session; used = n; rows = r; sends = q; next = next }) d₀ d e₀ e
+unfolding stepDone
+turns-done t at n r q left x next d₀ d e₀ e p u f g h i j =
+    let y : Turned = record { session = x .session; used = n; rows = r; sends = q; next = next } in
+    subst (λ (z : Did Next). Turns z y d₀ d e₀ e) (sym p)
+    (subst (λ (k : ℕ). Turns (stepDone at left x) (record { session = x .session; used = k; rows = r; sends = q; next = next }) d₀ d e₀ e) (sym u)
+    (record { answer = simp (f, h, j, u); rows = g ∙ ap (λ (k : ℕ). laid (rowNumbers (rowAt at k (x .answer .row))) d₀) u; sends = i }))
