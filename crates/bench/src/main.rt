@@ -110,18 +110,23 @@ fn begins(s: &[u8], word: &[u8]) -> bool {
     true
 }
 
-// The decimal digits at the front: how many, and their value, where 4,294,967,296 stands for anything past 32 bits.
+// The most that Start and End can be, and what stands for every number past it.
+const MOST: u64 = 4294967295;
+
+const PAST: u64 = MOST + 1;
+
+// The decimal digits at the front: how many, and their value.
 struct Numeral {
     value: u64,
     digits: usize,
 }
 
 fn with_digit(value: u64, digit: u8) -> u64 {
-    if 4294967295 < value {
-        return 4294967296;
+    if MOST < value {
+        return PAST;
     }
     let v = value * 10 + digit as u64;
-    if 4294967295 < v { 4294967296 } else { v }
+    if MOST < v { PAST } else { v }
 }
 
 fn number(s: &[u8]) -> Numeral {
@@ -162,10 +167,10 @@ fn asked(line: &[u8]) -> Request {
     if s.digits == 0 || e.digits == 0 {
         return Request::Bad;
     }
-    if 4294967295 < s.value {
+    if MOST < s.value {
         return Request::Bad;
     }
-    if 4294967295 < e.value {
+    if MOST < e.value {
         return Request::Bad;
     }
     Request::Plan(s.value as u32, e.value as u32)

@@ -93,7 +93,7 @@ module _ (P : Session → Type 0) (keeps : (s : Session) (b : List ℕ) → P s 
   course-keeps : (at r q : ℕ) (s : Session) (left : List ℕ) → (s .state ≡ state.Down → ⊥) → P s → P (course at r q s left .session)
   course-keeps at r q s left up h =
       let w = single-steps at r q s left up in
-      subst (λ (x : Did Ended). P (x .session)) (sym (w .same)) (singles-keep (w .count) at s left (course at r q s left .after) h)
+      subst (λ (x : Did Ended). P (x .session)) (sym (w .1)) (singles-keep (w .0) at s left (course at r q s left .after) h)
 
   pub call-keeps : (s : Session) (bytes : List ℕ) (r q : ℕ) → P s → P (called s bytes r q .session)
   unfolding called calledBy refusalIn

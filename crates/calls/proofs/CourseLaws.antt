@@ -12,7 +12,6 @@ use borrow.Author.Tests.{le-leb, leb-true, eq-eqb, ne-eqb, eqb-true, eqb-false}
 use Rattle.wire.proofs.TestLaws.{either}
 use Rattle.message.specs.Frame.{framed, frontLength}
 use Rattle.message.specs.Read.{readFramed, readOf}
-use Rattle.message.specs.Refusal.{besidesOf}
 use Rattle.session.specs.declared.state.Code.{Code}
 use Rattle.session.specs.declared.state.Answer.{Answer}
 use Rattle.session.specs.declared.state.Row.{Row}
@@ -27,7 +26,7 @@ use Rattle.calls.specs.declared.Ended.the-variants as ended
 use Rattle.calls.specs.declared.Next.{Next}
 use Rattle.calls.specs.declared.Next.the-variants.{On, Ends}
 use Rattle.session.specs.Day.{step}
-use Rattle.session.specs.State.{codeNumber, last, sortNumber, told, take}
+use Rattle.session.specs.State.{codeNumber, codeBesides, last, sortNumber, told, take}
 use Rattle.calls.specs.Steps.{
   Placed,
   rowAt,
@@ -40,7 +39,6 @@ use Rattle.calls.specs.Steps.{
   nextOf,
   stepDone,
   fits,
-  neededBy,
   turnBy,
   turnOf,
   andThen,
@@ -48,7 +46,7 @@ use Rattle.calls.specs.Steps.{
   turns,
   course,
 }
-use Rattle.session.proofs.StepLaws.{front-within, short-code, step-uses}
+use Rattle.session.proofs.StepLaws.{front-within, short-code, short-needs, step-uses}
 use Rattle.session.proofs.TurnLaws.{and-true}
 
 -- the numbers of rows, and of messages to send, one after another
@@ -125,7 +123,7 @@ fits-not at r q a n = go (fits at r q a) refl
 
 -- a turn ends the call before its step, at 1 or without a free slot, or does the step
 pub data Turning (at r q : ℕ) (s : Session) (left : List ℕ) : Did Next → Type 0 where
-  short : codeNumber (step s left .answer .code) ≡ 1 → Turning at r q s left (did s (Ends (ended.Short (neededBy (readOf left)))))
+  short : codeNumber (step s left .answer .code) ≡ 1 → Turning at r q s left (did s (Ends (ended.Short (codeBesides (step s left .answer .code)))))
   full : (codeNumber (step s left .answer .code) ≡ 1 → ⊥) → (Fits at r q (step s left .answer) → ⊥) → Turning at r q s left (did s (Ends ended.NoSlot))
   done : (codeNumber (step s left .answer .code) ≡ 1 → ⊥) → Fits at r q (step s left .answer) → Turning at r q s left (stepDone at left (step s left))
 
@@ -141,7 +139,7 @@ module _ (at r q : ℕ) (s : Session) (left : List ℕ) where
       (λ u. full (eqb-false (codeNumber (a .code)) 1 t) (λ f. true≢false (sym (fits-by at r q a f) ∙ u))))
 
   -- and the other way round
-  pub short-turn : codeNumber (step s left .answer .code) ≡ 1 → turnOf at r q s left ≡ did s (Ends (ended.Short (neededBy (readOf left))))
+  pub short-turn : codeNumber (step s left .answer .code) ≡ 1 → turnOf at r q s left ≡ did s (Ends (ended.Short (codeBesides (step s left .answer .code))))
   unfolding turnOf turnBy
   short-turn c = rw (eq-eqb (codeNumber (step s left .answer .code)) 1 c)
 
@@ -220,9 +218,11 @@ follow-same f g at r q left t same = go (t .after) same
 
 -- where no byte is left, a turn ends the call: 3 are needed
 none-left : (k at r q : ℕ) (s : Session) (left : List ℕ) → (s .state ≡ Down → ⊥) → length left ≤ 0 → turns k at r q s left ≡ did s (ended.Short 3)
-unfolding turns follow andThen readOf readFramed framed neededBy besidesOf
+unfolding turns follow andThen readOf readFramed framed
 none-left zero at r q s left up l = refl
-none-left (suc k) at r q s [] up l = ap (follow (turns k) at r q []) (short-turn at r q s [] (short-code s [] up 3 refl))
+none-left (suc k) at r q s [] up l =
+    ap (follow (turns k) at r q []) (short-turn at r q s [] (short-code s [] up 3 refl))
+    ∙ ap (λ (n : ℕ). did s (ended.Short n)) (short-needs s [] up 3 refl)
 none-left (suc k) at r q s (b ∷ bs) up l = absurd (omega arith)
 
 -- as many turns as there are bytes are enough

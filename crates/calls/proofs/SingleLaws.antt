@@ -7,7 +7,6 @@ use mathlib.Core.List.{List, [], _++_, append-nil}
 use native.Mathlib.Omega.{arith}
 use lib.ListN.{length, drop, length-append, length-drop}
 use Rattle.message.specs.Frame.{frontLength}
-use Rattle.message.specs.Read.{readOf}
 use Rattle.session.specs.declared.state.Code.{Code}
 use Rattle.session.specs.declared.state.Row.{Row}
 use Rattle.session.specs.declared.state.Send.{Send}
@@ -17,7 +16,7 @@ use Rattle.session.specs.declared.state.State.the-variants as state
 use Rattle.calls.specs.declared.Ended.{Ended}
 use Rattle.calls.specs.declared.Ended.the-variants.{Short, Down, NoSlot}
 use Rattle.calls.specs.declared.Next.{Next}
-use Rattle.session.specs.State.{codeNumber}
+use Rattle.session.specs.State.{codeNumber, codeBesides}
 use Rattle.session.specs.Day.{step}
 use Rattle.calls.specs.Steps.{
   Placed,
@@ -30,7 +29,6 @@ use Rattle.calls.specs.Steps.{
   joined,
   nextOf,
   stepDone,
-  neededBy,
   turnOf,
   andThen,
   follow,
@@ -71,7 +69,7 @@ pub record Does (at r q : ℕ) (s : Session) (left : List ℕ) : Type 0 where
 -- x is what a call does, step by step: on the bytes `left`, the first of which stands at place `at`, with r and q numbers free in its lists
 pub data Runs : ℕ → ℕ → ℕ → Session → List ℕ → Did Ended → Type 0 where
   short : {at r q : ℕ} {s : Session} {left : List ℕ} → (s .state ≡ state.Down → ⊥) → codeNumber (step s left .answer .code) ≡ 1
-      → Runs at r q s left (did s (Short (neededBy (readOf left))))
+      → Runs at r q s left (did s (Short (codeBesides (step s left .answer .code))))
   full : {at r q : ℕ} {s : Session} {left : List ℕ} → (s .state ≡ state.Down → ⊥) → (codeNumber (step s left .answer .code) ≡ 1 → ⊥)
       → (Fits at r q (step s left .answer) → ⊥) → Runs at r q s left (did s NoSlot)
   down : {at r q : ℕ} {s : Session} {left : List ℕ} → Does at r q s left → step s left .session .state ≡ state.Down
@@ -212,8 +210,8 @@ runs-sends {s = s} {left = left} (on {y = y} d u c) =
 
 module _ (at r q : ℕ) (s : Session) (left : List ℕ) (up : s .state ≡ state.Down → ⊥) where
   -- the whole of what a call does is what so many single steps do, each on what the one before it left
-  pub single-steps : Singles at s left (course at r q s left)
-  single-steps = runs-singles (course-runs at r q s left up)
+  pub single-steps : (n : ℕ) × (course at r q s left ≡ singles n at s left (course at r q s left .after))
+  single-steps = let x = runs-singles (course-runs at r q s left up) in (x .count, x .same)
 
   -- a call leaves the session Down exactly where it ends so
   pub ended-down : course at r q s left .session .state ≡ state.Down → (k : Code) × (course at r q s left .after ≡ Down k)

@@ -1,5 +1,5 @@
 -- A turn as the code does it: what it gives back and what the lists hold then is what the turn says.
-use Prim.Native.Nat.{ℕ}
+use Prim.Native.Nat.{ℕ, _+_}
 use mathlib.Core.Path.{_≡_, refl, sym, ap, subst, _∙_}
 use mathlib.Core.List.{List, []}
 use lib.ListN.{length}
@@ -7,6 +7,8 @@ use Rattle.message.specs.declared.read.Reading.{Reading}
 use Rattle.message.specs.Frame.{frontLength}
 use Rattle.message.specs.Read.{readOf}
 use Rattle.wire.specs.Laying.{laid}
+use Rattle.session.specs.declared.state.Row.the-variants.{Business}
+use Rattle.session.specs.declared.state.Send.the-variants.{Nothing}
 use Rattle.session.specs.declared.state.Session.{Session}
 use Rattle.session.specs.declared.state.Stepped.{Stepped}
 use Rattle.calls.specs.declared.Ended.{Ended}
@@ -14,6 +16,9 @@ use Rattle.calls.specs.declared.Next.{Next}
 use Rattle.calls.specs.declared.Next.the-variants.{Ends}
 use Rattle.calls.specs.declared.Turned.{Turned}
 use Rattle.session.specs.Day.{stepBy, step}
+use Rattle.session.specs.State.{take}
+use Rattle.session.specs.Turn.{takeDue}
+use Rattle.session.proofs.TurnLaws.{due-step}
 use Rattle.calls.specs.Steps.{rowAt, sendsOf, rowNumbers, sendNumbers, Did, did, nextOf, stepDone, turnedBy}
 use Rattle.calls.proofs.SlotLaws.{laid-none}
 
@@ -21,6 +26,14 @@ use Rattle.calls.proofs.SlotLaws.{laid-none}
 pub read-step : (s : Session) (left : List ℕ) (read : Reading) (x : Stepped) → read ≡ readOf left → x ≡ stepBy s left read → x ≡ step s left
 unfolding step
 read-step s left read x r e = e ∙ ap (stepBy s left) r
+
+-- business in its turn: the step takes it and does nothing else, and gives the session and the length that `takeDue` says
+pub due-is-step : (s : Session) (left : List ℕ) → (takeDue s left (readOf left) .length ≡ 0 → ⊥)
+    → (step s left ≡ take s (s .expected + 1) (s .own) Nothing (Business (s .expected)))
+    × (takeDue s left (readOf left) .session ≡ step s left .session) × (takeDue s left (readOf left) .length ≡ frontLength left)
+due-is-step s left some =
+    let t = due-step s left (readOf left) (takeDue s left (readOf left)) refl refl some in
+    (t .step, t .session ∙ sym (ap (λ (x : Stepped). x .session) (t .step)), t .size)
 
 -- what a turn is to give back, t, with its lists d and e, which were d₀ and e₀
 pub record Turns (t : Did Next) (x : Turned) (d₀ d e₀ e : List ℕ) : Type 0 where

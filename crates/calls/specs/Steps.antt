@@ -2,16 +2,13 @@
 use Prim.Native.Nat.{ℕ, zero, suc, _+_, _-_, _*_}
 use mathlib.Core.Bool.{Bool, cond, _&&_}
 use mathlib.Core.Path.{_≡_}
-use mathlib.Core.List.{List, [], _∷_, _++_}
+use mathlib.Core.List.{List, [], _∷_, _++_, map}
 use lib.Dec.{eqb, leb}
 use lib.ListN.{length, drop}
 use Rattle.wire.specs.Laying.{laid}
-use Rattle.message.specs.declared.read.Reading.{Reading}
-use Rattle.message.specs.declared.read.Reading.the-variants as reading
 use Rattle.message.specs.Frame.{frontLength}
-use Rattle.message.specs.Read.{readOf}
 use Rattle.message.specs.declared.refusal.Refusal.the-variants.{NoRoom}
-use Rattle.message.specs.Refusal.{besidesOf, short}
+use Rattle.message.specs.Refusal.{short}
 use Rattle.session.specs.declared.state.Answer.{Answer}
 use Rattle.session.specs.declared.state.Code.{Code}
 use Rattle.session.specs.declared.state.Code.the-variants.{Good, Refused, Halted}
@@ -30,7 +27,7 @@ use Rattle.calls.specs.declared.Next.the-variants.{On, Ends}
 use Rattle.calls.specs.declared.Turned.{Turned}
 use Rattle.session.specs.Day.{step}
 use Rattle.session.specs.Held.{stateNumber}
-use Rattle.session.specs.State.{last, codeNumber, firstOf, lastOf, sortNumber, sendNone, told}
+use Rattle.session.specs.State.{last, codeNumber, codeBesides, firstOf, lastOf, sortNumber, sendNone, told}
 
 -- a row, where in the slice its message begins, and how long that is
 pub record Placed : Type 0 where
@@ -98,15 +95,10 @@ stepDone at left x = record {
 unfoldable pub fits : ℕ → ℕ → ℕ → Answer → Bool
 fits at r q a = leb at last && leb (length (rowNumbers (rowAt at 0 (a .row)))) r && leb (length (sendNumbers (sendsOf a))) q
 
--- what a Short needs, counted from its message
-unfoldable pub neededBy : Reading → ℕ
-neededBy (reading.Good h n) = 0
-neededBy (reading.Refused r) = besidesOf r
-
--- a turn: 1 ends the call, and so does a row or a message to send without a free slot, each before the step
+-- a turn: 1 ends the call, with the bytes that it needs, and so does a row or a message to send without a free slot, each before the step
 unfoldable pub turnBy : ℕ → ℕ → ℕ → Session → List ℕ → Stepped → Did Next
 turnBy at r q s left x =
-    cond (eqb (codeNumber (x .answer .code)) short) (did s (Ends (Short (neededBy (readOf left))))) (
+    cond (eqb (codeNumber (x .answer .code)) short) (did s (Ends (Short (codeBesides (x .answer .code))))) (
     cond (fits at r q (x .answer)) (stepDone at left x)
     (did s (Ends NoSlot)))
 
@@ -201,8 +193,7 @@ singles (suc k) at s left why =
 
 -- and the same rows for a slice that begins further on
 unfoldable pub furtherRows : ℕ → List Placed → List Placed
-furtherRows n [] = []
-furtherRows n (w ∷ ws) = record { row = w .row; at = n + w .at; size = w .size } ∷ furtherRows n ws
+furtherRows n = map (λ (w : Placed). record { row = w .row; at = n + w .at; size = w .size })
 
 unfoldable pub further : {A : Type 0} → ℕ → Did A → Did A
 further n x = record { session = x .session; used = x .used; rows = furtherRows n (x .rows); sends = x .sends; after = x .after }

@@ -25,11 +25,13 @@ ghost use mathlib.Core.List.{[], _∷_};
 ghost use Prim.Native.Nat.{ℕ, _+_, _≤_, _<_};
 ghost use lib.ListN.{length};
 ghost use Rattle.wire.specs.Laying.{laid};
+ghost use Rattle.wire.specs.Text.{longest};
 ghost use Rattle.message.specs.Frame.{frontLength};
 ghost use Rattle.message.specs.Read.{readOf};
 ghost use Rattle.session.specs.declared.state.State.the-variants as state;
+ghost use Rattle.session.specs.State.{last};
 ghost use Rattle.calls.specs.declared.Next.the-variants.{Ends};
-ghost use Rattle.calls.specs.Steps.{rowAt, sendIn, sendsOf, rowNumbers, sendNumbers, did, fits, neededBy, nextOf, turnedBy, hasRoom, reports, LaysTurn, LaysRun, LaysSteps};
+ghost use Rattle.calls.specs.Steps.{aRow, aSend, rowAt, sendIn, sendsOf, rowNumbers, sendNumbers, did, fits, nextOf, turnedBy, hasRoom, reports, LaysTurn, LaysRun, LaysSteps};
 
 // A row takes five numbers: its sort, its first and last number, where in the slice its message begins, and how long that is.
 pub const A_ROW: usize = 5;
@@ -76,7 +78,7 @@ struct Turned {
 
 // The numbers of a row, over the first of d.
 fn lay_row(d: &mut [u32], row: Row, at: usize, size: usize)
-    requires { ⌜ (5 ≤ length (now d)) × (at ≤ 4294967295) × (size ≤ 4096) ⌝ }
+    requires { ⌜ (aRow ≤ length (now d)) × (at ≤ last) × (size ≤ longest) ⌝ }
     ensures { λ _. ⌜ now (d .exit) ≡ laid (rowNumbers (record { row = row; at = at; size = size } ∷ [])) (now (d .entry)) ⌝ }
 {
     d[0] = sort_number(row);
@@ -88,7 +90,7 @@ fn lay_row(d: &mut [u32], row: Row, at: usize, size: usize)
 
 // A step's row, if it has one, at the front of d: how many numbers that are.
 fn put_row(d: &mut [u32], row: Row, at: usize, size: usize) -> usize
-    requires { ⌜ (length (rowNumbers (rowAt at size row)) ≤ length (now d)) × (at ≤ 4294967295) × (size ≤ 4096) ⌝ }
+    requires { ⌜ (length (rowNumbers (rowAt at size row)) ≤ length (now d)) × (at ≤ last) × (size ≤ longest) ⌝ }
     ensures { λ r. ⌜ (r ≡ length (rowNumbers (rowAt at size row))) × (now (d .exit) ≡ laid (rowNumbers (rowAt at size row)) (now (d .entry))) ⌝ }
 {
     if sort_number(row) == ROW_NONE {
@@ -100,7 +102,7 @@ fn put_row(d: &mut [u32], row: Row, at: usize, size: usize) -> usize
 
 // The numbers of a message to send, over the first of d.
 fn lay_send(d: &mut [u32], send: Send)
-    requires { ⌜ 4 ≤ length (now d) ⌝ }
+    requires { ⌜ aSend ≤ length (now d) ⌝ }
     ensures { λ _. ⌜ now (d .exit) ≡ laid (sendNumbers (send ∷ [])) (now (d .entry)) ⌝ }
 {
     let t = told(send);
@@ -134,7 +136,7 @@ fn put_sends(d: &mut [u32], answer: Answer) -> usize
 }
 
 fn row_room(row: Row) -> usize
-    ensures { λ r. ⌜ ((at size : ℕ) → r ≡ length (rowNumbers (rowAt at size row))) × (r ≤ 5) ⌝ }
+    ensures { λ r. ⌜ ((at size : ℕ) → r ≡ length (rowNumbers (rowAt at size row))) × (r ≤ aRow) ⌝ }
 {
     if sort_number(row) == ROW_NONE {
         0
@@ -144,7 +146,7 @@ fn row_room(row: Row) -> usize
 }
 
 fn send_room(send: Send) -> usize
-    ensures { λ r. ⌜ (r ≡ length (sendNumbers (sendIn send))) × (r ≤ 4) ⌝ }
+    ensures { λ r. ⌜ (r ≡ length (sendNumbers (sendIn send))) × (r ≤ aSend) ⌝ }
 {
     if told(send).kind == SEND_NONE {
         0
@@ -169,23 +171,10 @@ fn is_fitting(at: usize, rows: usize, sends: usize, answer: Answer) -> bool
     send_room(first) + send_room(second) <= sends
 }
 
-// How many bytes a Short needs.
-fn needed_by(reading: Reading) -> usize
-    ensures { λ r. ⌜ r ≡ neededBy reading ⌝ }
-{
-    match reading {
-        Reading::Good {
-            header: _,
-            length: _,
-        } => 0,
-        Reading::Refused(refusal) => refusal.besides(),
-    }
-}
-
 // What a step uses on the message at the front of s, which was read: no bytes where it met 1, 2 or 3, else the Length.
 fn used_by(reading: Reading, s: &[u8]) -> usize
     requires { ⌜ reading ≡ readOf (now s) ⌝ }
-    ensures { λ r. ⌜ (r ≡ frontLength (now (s .entry))) × (r ≤ length (now (s .entry))) × (r ≤ 4096) ⌝ }
+    ensures { λ r. ⌜ (r ≡ frontLength (now (s .entry))) × (r ≤ length (now (s .entry))) × (r ≤ longest) ⌝ }
 {
     match reading {
         Reading::Good { header: _, length } => length,
@@ -250,7 +239,7 @@ fn turn(
     let row = answer.row;
     let code = answer.code;
     if code.number() == SHORT {
-        return ends(session, Ended::Short(needed_by(reading)));
+        return ends(session, Ended::Short(code.besides()));
     }
     if !is_fitting(at, rows.len(), sends.len(), answer) {
         return ends(session, Ended::NoSlot);

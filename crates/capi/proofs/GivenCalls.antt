@@ -67,7 +67,7 @@ module _ (s : Session) (h : Standing s) (l : s .own ≤ last) (bytes : List ℕ)
   course-each : (s .state ≡ state.Down → ⊥) → Each (course 0 r q s bytes .sends)
   course-each up =
       let w = single-steps 0 r q s bytes up in
-      subst (λ (x : Did Ended). Each (x .sends)) (sym (w .same)) (singles-each (w .count) 0 s bytes (course 0 r q s bytes .after) h l b)
+      subst (λ (x : Did Ended). Each (x .sends)) (sym (w .1)) (singles-each (w .0) 0 s bytes (course 0 r q s bytes .after) h l b)
 
   by-code : (s .state ≡ state.Down → ⊥) → (k : Code) → Each (calledBy k s bytes r q .sends)
   unfolding calledBy

@@ -14,20 +14,10 @@ use Rattle.capi.specs.declared.shape.CSession.{CSession}
 use Rattle.capi.specs.Sessions.{shownSession, sessionIn, isSession, notASession}
 
 -- why a call ended, in numbers: the reason, Down's code, and what comes besides: the bytes that Short needs, or what the reader returned with that code
-unfoldable pub endedNumber : Ended → ℕ
-endedNumber (Short n) = 1
-endedNumber (Down k) = 2
-endedNumber NoSlot = 3
-
-unfoldable pub endedCode : Ended → ℕ
-endedCode (Short n) = 0
-endedCode (Down k) = codeNumber k
-endedCode NoSlot = 0
-
-unfoldable pub endedBesides : Ended → ℕ
-endedBesides (Short n) = n
-endedBesides (Down k) = codeBesides k
-endedBesides NoSlot = 0
+unfoldable pub endedIn : Ended → ℕ × ℕ × ℕ
+endedIn (Short n) = (1, 0, n)
+endedIn (Down k) = (2, codeNumber k, codeBesides k)
+endedIn NoSlot = (3, 0, 0)
 
 unfoldable pub shownDone : Done → CDone
 shownDone x = record {
@@ -36,9 +26,9 @@ shownDone x = record {
   used = x .used;
   rows = x .rows;
   sends = x .sends;
-  ended = endedNumber (x .ended);
-  code = endedCode (x .ended);
-  besides = endedBesides (x .ended);
+  ended = endedIn (x .ended) .0;
+  code = endedIn (x .ended) .1;
+  besides = endedIn (x .ended) .2;
 }
 
 -- for lists of r and q numbers

@@ -48,11 +48,12 @@ ghost use Prim.Native.Nat.{_+_, _<_};
 ghost use Rattle.message.specs.Frame.{frontLength};
 ghost use Rattle.session.specs.declared.state.Row.the-variants.{Business};
 ghost use Rattle.session.specs.declared.state.Send.the-variants.{Nothing};
+ghost use Rattle.session.specs.declared.state.State.the-variants.{Live};
 ghost use mathlib.Core.Bool.{true};
 ghost use Rattle.session.specs.Day.{step};
-ghost use Rattle.session.specs.Held.{held};
-ghost use Rattle.session.specs.State.{take};
-ghost use Rattle.capi.specs.Steps.{endedNumber, endedCode, endedBesides, shownDone, TakesC};
+ghost use Rattle.session.specs.Held.{stateNumber, held};
+ghost use Rattle.session.specs.State.{last, take};
+ghost use Rattle.capi.specs.Steps.{endedIn, shownDone, TakesC};
 ghost use Rattle.capi.specs.Sessions.{shownSession, sessionIn, notASession, made, shownMade, freshC, savedC, shownConnected, connectC, dropC, toSend, shownSend, shownRow, shownStepped, notStepped, usedBy, stepC, isOurNumber, isSend, sendBy, sentBy, SendsC, LogsOnC};
 
 // No session gives such a message to send.
@@ -228,7 +229,7 @@ fn used_by(state: u32, s: &[u8]) -> usize
 
 // Business in its turn: the answer, with nothing looked up.
 fn in_turn(c: CSession, used: usize) -> CStepped
-    requires { ⌜ (c .state ≡ 2) × (c .expected < 4294967295) ⌝ }
+    requires { ⌜ (c .state ≡ stateNumber Live) × (c .expected < last) ⌝ }
     ensures { λ r. ⌜ r ≡ shownStepped used (take (sessionIn c) (c .expected + 1) (c .own) Nothing (Business (c .expected))) ⌝ }
 {
     let e = c.expected;
@@ -258,7 +259,7 @@ fn in_turn(c: CSession, used: usize) -> CStepped
 // nothing else, so this answer is the step's own. It stands here and not in `session`, since there every way out would meet in
 // one answer in memory.
 fn live_step(c: CSession, session: Session, s: &[u8]) -> CStepped
-    requires { ⌜ (c .state ≡ 2) × (session ≡ sessionIn c) ⌝ }
+    requires { ⌜ (c .state ≡ stateNumber Live) × (session ≡ sessionIn c) ⌝ }
     ensures { λ r. ⌜ r ≡ shownStepped (frontLength (now (s .entry))) (step (sessionIn c) (now (s .entry))) ⌝ }
 {
     let reading = read(s);
@@ -287,7 +288,7 @@ pub fn step_c(c: CSession, s: &[u8]) -> CStepped
 }
 
 fn ended_number(ended: Ended) -> u32
-    ensures { λ r. ⌜ r ≡ endedNumber ended ⌝ }
+    ensures { λ r. ⌜ r ≡ endedIn ended .0 ⌝ }
 {
     match ended {
         Ended::Short(_) => 1,
@@ -297,7 +298,7 @@ fn ended_number(ended: Ended) -> u32
 }
 
 fn ended_code(ended: Ended) -> u32
-    ensures { λ r. ⌜ r ≡ endedCode ended ⌝ }
+    ensures { λ r. ⌜ r ≡ endedIn ended .1 ⌝ }
 {
     match ended {
         Ended::Short(_) => 0,
@@ -307,7 +308,7 @@ fn ended_code(ended: Ended) -> u32
 }
 
 fn ended_besides(ended: Ended) -> usize
-    ensures { λ r. ⌜ r ≡ endedBesides ended ⌝ }
+    ensures { λ r. ⌜ r ≡ endedIn ended .2 ⌝ }
 {
     match ended {
         Ended::Short(n) => n,
@@ -410,7 +411,7 @@ pub fn send_c(d: &mut [u8], c: CSession, x: CSend) -> CWritten
         return wrote(NOT_A_SEND, 0, 0);
     }
     let ours = c.ours;
-    put_send(d, x, fixed_part(&ours, COMP_ID_BYTES))
+    put_send(d, x, fixed_part(COMP_ID_BYTES, &ours))
 }
 
 // Connect's Logon, as bytes at the front of d: a Waiting session's number and Next Expected.
@@ -429,7 +430,7 @@ pub fn logon_c(d: &mut [u8], c: CSession, password: &[u8]) -> CWritten
     let ours = c.ours;
     written_shown(put_logon(
         d,
-        fixed_part(&ours, COMP_ID_BYTES),
+        fixed_part(COMP_ID_BYTES, &ours),
         c.own - 1,
         password,
         c.expected,

@@ -62,7 +62,8 @@ fn print(out: &[u8], n: usize) -> bool {
 
 // Moves the bytes from `from` to `end` to the front: how many they are.
 fn to_front(buf: &mut [u8], from: usize, end: usize) -> usize
-    ensures { λ r. ⌜ (from ≤ end → end ≤ length (now (buf .entry)) → (r ≡ end - from) × (take r (now (buf .exit)) ≡ take r (drop from (now (buf .entry))))) ⌝ }
+    ensures { λ r. ⌜ (from ≤ end → end ≤ length (now (buf .entry)) → r ≡ end - from) ⌝ }
+    ensures { λ r. ⌜ (from ≤ end → end ≤ length (now (buf .entry)) → take r (now (buf .exit)) ≡ take r (drop from (now (buf .entry)))) ⌝ }
 {
     if end < from {
         return 0;

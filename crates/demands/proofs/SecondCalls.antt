@@ -27,7 +27,7 @@ use Rattle.calls.specs.declared.Ended.{Ended}
 use Rattle.calls.specs.declared.Ended.the-variants.{Short}
 use Rattle.session.specs.Arrival.{arrivalBy, arrivalOf}
 use Rattle.session.specs.Day.{stepBy, refused, arrived, stepIn, step}
-use Rattle.session.specs.State.{codeNumber, last, sortNumber, told, unmoved, take}
+use Rattle.session.specs.State.{codeNumber, codeBesides, last, sortNumber, told, unmoved, take}
 use Rattle.calls.specs.Steps.{
   rowAt,
   sendIn,
@@ -40,7 +40,6 @@ use Rattle.calls.specs.Steps.{
   nextOf,
   stepDone,
   fits,
-  neededBy,
   turnBy,
   turnOf,
   andThen,
@@ -114,7 +113,7 @@ turn-on k at r q f n s left w t l a h =
 
 -- where no byte is left the next message is waited for, which needs 3
 turns-end : (k at r q : ℕ) (s : Session) → s .state ≡ Live → turns k at r q s [] ≡ did s (Short 3)
-unfolding turns follow turnOf turnBy andThen neededBy step stepBy stepIn arrived refused unmoved codeNumber arrivalBy readOf readFramed framed numberOf besidesOf
+unfolding turns follow turnOf turnBy andThen step stepBy stepIn arrived refused unmoved codeNumber codeBesides arrivalBy readOf readFramed framed numberOf besidesOf
 turns-end zero at r q s p = refl
 turns-end (suc k) at r q s p = simp p
 

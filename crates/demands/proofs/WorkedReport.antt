@@ -32,7 +32,7 @@ use Rattle.fields.specs.Cut.{positions, extent, extentOf, cutAt, cut, bytesAt}
 use Rattle.fields.specs.Walk.{onward, walkThrough, walkOf}
 use Rattle.fields.specs.Value.{numberValue, decimalValue, textValue, sortValue, sortText, fieldValue, fieldText, rowValue, rowText, valueIn, textIn, valueAt, textAt, valueOf}
 use Rattle.message.specs.Frame.{partIn, lengthIn, headerIn, compIdIn, mapIn, bodyIn, sumIn, framedBy, framed}
-use Rattle.message.specs.Vet.{goodCompId, goodHeader, vetWalk, vetMissing, vetUnknown, vetFields, vet}
+use Rattle.message.specs.Vet.{goodCompId, goodHeader, vetWalk, vetPlace, vetSets, vetFields, vet}
 use Rattle.message.specs.Read.{readVetted, readWhole, readFramed, readOf}
 use Rattle.message.specs.Refusal.{numberOf}
 use Rattle.session.specs.declared.state.Session.{Session}
@@ -205,7 +205,7 @@ unfolding bits numberOfBits messageBits polynomial differ less divided complemen
     whole yesNo fixedTaken fixed checkSort checkRow positions extent extentOf cutAt cut bytesAt onward walkThrough walkOf
     numberValue decimalValue textValue sortValue sortText fieldValue fieldText rowValue rowText valueIn textIn valueAt textAt valueOf
     partIn lengthIn headerIn compIdIn mapIn bodyIn sumIn framedBy framed
-    goodCompId goodHeader vetWalk vetMissing vetUnknown vetFields vet readVetted readWhole readFramed readOf
+    goodCompId goodHeader vetWalk vetPlace vetSets vetFields vet readVetted readWhole readFramed readOf
     upTo isYes sequenceResetContent contentOf fieldsAt contentIn saidBy said bytesOf logonBytes businessBytes heartbeatBytes fillBytes logonSaid businessSaid
     reportFields reportBytes reportSaid
     numberOf sameBytes isOurs messageIn arrivalBy arrivalOf unmoved aheadAt take fillTo logonRule waiting told slots ask higher gapFill equal numbered live lower forUs ruledIn ruled

@@ -1,7 +1,7 @@
 -- Demand 3 where messages come by calls of many (document 02, item 1): it speaks of the steps done.
 use Prim.Native.Nat.{ℕ}
 use mathlib.Core.Path.{_≡_}
-use mathlib.Core.List.{List, [], _∷_, _++_}
+use mathlib.Core.List.{List, [], _∷_, _++_, foldr}
 use lib.ListN.{length, take, drop}
 use Rattle.message.specs.Frame.{frontLength}
 use Rattle.session.specs.declared.state.Session.{Session}
@@ -14,8 +14,7 @@ use Rattle.demands.specs.Run.{saidAll}
 
 -- what a call of many messages hands up: the messages of its rows, each as it stands at its place in the slice
 unfoldable pub handedRows : List ℕ → List Placed → List Content
-handedRows bytes [] = []
-handedRows bytes (w ∷ ws) = handedBy (w .row) (take (w .size) (drop (w .at) bytes)) ++ handedRows bytes ws
+handedRows bytes = foldr (λ (w : Placed) (rest : List Content). handedBy (w .row) (take (w .size) (drop (w .at) bytes)) ++ rest) []
 
 -- what can happen: an event as before, or a call of many messages with lists of so many numbers
 pub data Call : Type 0 where
@@ -58,8 +57,7 @@ pub data Whole : List (List ℕ) → Type 0 where
   more : {b : List ℕ} {bs : List (List ℕ)} → frontLength b ≡ length b → Whole bs → Whole (b ∷ bs)
 
 unfoldable pub slice : List (List ℕ) → List ℕ
-slice [] = []
-slice (b ∷ bs) = b ++ slice bs
+slice = foldr _++_ []
 
 -- one call takes them whole: every byte is used, the session is live, expects f and has its own number as before; the rows' messages are the business
 -- messages of the bytes, in order; nothing is sent; and the next message is waited for

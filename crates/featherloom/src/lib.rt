@@ -12,6 +12,7 @@ use capi::shape::CSession;
 use capi::shape::CStepped;
 use capi::shape::CValue;
 use capi::shape::CWritten;
+use wire::map::MAP_BYTES;
 ghost use mathlib.Core.Path.{_≡_};
 ghost use Rattle.crc.specs.Crc.{crc32c};
 ghost use Rattle.capi.specs.Reading.{readC, compIdC, mapC, bodyC, askC, textC, ListsC};
@@ -89,7 +90,7 @@ pub extern "C" fn featherloom_write(
     buffer: &mut [u8],
     header: CHeader,
     comp: &[u8],
-    map: &[u8; 32],
+    map: &[u8; MAP_BYTES],
     body: &[u8],
 ) -> CWritten
     ensures { λ r. ⌜ WritesC header (now (comp .entry)) (now (map .entry)) (now (body .entry)) (now (buffer .entry)) r (now (buffer .exit)) ⌝ }

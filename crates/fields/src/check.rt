@@ -27,7 +27,7 @@ pub enum Checked {
     Bad(Reason),
 }
 
-fn check_whole(s: &[u8], width: usize) -> Checked
+fn check_whole(width: usize, s: &[u8]) -> Checked
     ensures { λ r. ⌜ r ≡ whole width (now (s .entry)) ⌝ }
 {
     if s.len() < width {
@@ -53,10 +53,10 @@ fn check_yes_no(s: &[u8]) -> Checked
     }
 }
 
-fn check_fixed(s: &[u8], width: usize) -> Checked
+fn check_fixed(width: usize, s: &[u8]) -> Checked
     ensures { λ r. ⌜ r ≡ fixed width (now (s .entry)) ⌝ }
 {
-    match fixed_text(s, width) {
+    match fixed_text(width, s) {
         Text::Good {
             characters: _,
             taken,
@@ -69,10 +69,10 @@ fn check_fixed(s: &[u8], width: usize) -> Checked
 }
 
 // The plain form of a variable text has two bytes of length, its characters and the null.
-fn check_variable(s: &[u8], size: usize) -> Checked
+fn check_variable(size: usize, s: &[u8]) -> Checked
     ensures { λ r. ⌜ r ≡ variable size (now (s .entry)) ⌝ }
 {
-    match variable_text(s, size) {
+    match variable_text(size, s) {
         Text::Good { characters, taken } => Checked::Good {
             taken,
             plain: characters + 3,
@@ -86,12 +86,12 @@ fn check_sort(sort: Sort, s: &[u8]) -> Checked
     ensures { λ r. ⌜ r ≡ checkSort sort (now (s .entry)) ⌝ }
 {
     match sort {
-        Sort::Number(width) => check_whole(s, width),
-        Sort::Decimal => check_whole(s, 8),
-        Sort::Byte => check_whole(s, 1),
+        Sort::Number(width) => check_whole(width, s),
+        Sort::Decimal => check_whole(8, s),
+        Sort::Byte => check_whole(1, s),
         Sort::YesNo => check_yes_no(s),
-        Sort::Fixed(width) => check_fixed(s, width),
-        Sort::Variable(size) => check_variable(s, size),
+        Sort::Fixed(width) => check_fixed(width, s),
+        Sort::Variable(size) => check_variable(size, s),
     }
 }
 
@@ -188,9 +188,9 @@ fn check_report(p: usize, s: &[u8]) -> Checked
     ensures { λ r. ⌜ r ≡ checkRow (rowOf executionReportType p) (now (s .entry)) ⌝ }
 {
     match report_shape(p) {
-        Shape::Number(width) => check_whole(s, width),
-        Shape::Decimal => check_whole(s, 8),
-        Shape::Fixed(width) => check_fixed(s, width),
+        Shape::Number(width) => check_whole(width, s),
+        Shape::Decimal => check_whole(8, s),
+        Shape::Fixed(width) => check_fixed(width, s),
         Shape::Other => check_other(p, s),
     }
 }

@@ -23,12 +23,21 @@ use Rattle.message.specs.Ask.{textStart}
 abbrev pub aField : ℕ
 aField = 5
 
--- position; sort (1 a number, 2 a Decimal, 3 a text); where it begins; its bytes, or a text's characters; its value, a Decimal's as 64 bits. No field
--- of a good message has sort 0
+-- the sorts
+abbrev pub numberSort : ℕ
+numberSort = 1
+
+abbrev pub decimalSort : ℕ
+decimalSort = 2
+
+abbrev pub textSort : ℕ
+textSort = 3
+
+-- position; sort; where it begins; its bytes, or a text's characters; its value, a Decimal's as 64 bits. No field of a good message has sort 0
 unfoldable pub five : ℕ → ℕ → ℕ → Value → List ℕ
-five p at wide (value.Number n) = p ∷ 1 ∷ at ∷ wide ∷ n ∷ []
-five p at wide (value.Decimal z) = p ∷ 2 ∷ at ∷ wide ∷ unsigned z ∷ []
-five p at wide (value.Text n) = p ∷ 3 ∷ at ∷ n ∷ 0 ∷ []
+five p at wide (value.Number n) = p ∷ numberSort ∷ at ∷ wide ∷ n ∷ []
+five p at wide (value.Decimal z) = p ∷ decimalSort ∷ at ∷ wide ∷ unsigned z ∷ []
+five p at wide (value.Text n) = p ∷ textSort ∷ at ∷ n ∷ 0 ∷ []
 five p at wide value.Bad = p ∷ 0 ∷ at ∷ 0 ∷ 0 ∷ []
 five p at wide value.Absent = p ∷ 0 ∷ at ∷ 0 ∷ 0 ∷ []
 five p at wide value.Unknown = p ∷ 0 ∷ at ∷ 0 ∷ 0 ∷ []

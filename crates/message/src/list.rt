@@ -71,7 +71,7 @@ fn lay_five(d: &mut [u64], p: usize, sort: u64, at: usize, count: usize, value: 
 }
 
 // The number in the first `width` bytes, which most often is one byte.
-fn number_in(s: &[u8], width: usize) -> u64
+fn number_in(width: usize, s: &[u8]) -> u64
     requires { ⌜ width ≤ length (now s) ⌝ }
     ensures { λ r. ⌜ r ≡ number (take 8 (take width (now (s .entry)))) ⌝ }
 {
@@ -85,7 +85,8 @@ fn number_in(s: &[u8], width: usize) -> u64
 // it takes.
 fn lay_other(d: &mut [u64], messagetype: u8, map: &[u8], p: usize, whole: usize, s: &[u8]) -> usize
     requires { ⌜ (aField ≤ length (now d)) × (present (now map) p ≡ true) ⌝ }
-    ensures { λ r. ⌜ (r ≡ extentOf (rowOf messagetype p) (now (s .entry))) × (now (d .exit) ≡ laid (fiveOf (rowOf messagetype p) whole p (now (s .entry))) (now (d .entry))) ⌝ }
+    ensures { λ r. ⌜ r ≡ extentOf (rowOf messagetype p) (now (s .entry)) ⌝ }
+    ensures { λ _. ⌜ now (d .exit) ≡ laid (fiveOf (rowOf messagetype p) whole p (now (s .entry))) (now (d .entry)) ⌝ }
 {
     let at = text_start(messagetype, p, whole, s.len());
     let taken = extent_at(messagetype, p, s);
@@ -102,13 +103,15 @@ fn lay_other(d: &mut [u64], messagetype: u8, map: &[u8], p: usize, whole: usize,
 
 // A good field at the front of s, in a message of this length. Its bytes were checked, so none is looked at again but for its value.
 fn lay_field(d: &mut [u64], messagetype: u8, map: &[u8], p: usize, whole: usize, s: &[u8]) -> usize
-    requires { ⌜ (aField ≤ length (now d)) × (present (now map) p ≡ true) × (length (now s) + sumBytes ≤ whole) × (rowValue (rowOf messagetype p) true (now s) ≡ Bad → ⊥) ⌝ }
-    ensures { λ r. ⌜ (r ≡ extentOf (rowOf messagetype p) (now (s .entry))) × (now (d .exit) ≡ laid (fiveOf (rowOf messagetype p) whole p (now (s .entry))) (now (d .entry))) ⌝ }
+    requires { ⌜ (aField ≤ length (now d)) × (present (now map) p ≡ true) ⌝ }
+    requires { ⌜ (length (now s) + sumBytes ≤ whole) × (rowValue (rowOf messagetype p) true (now s) ≡ Bad → ⊥) ⌝ }
+    ensures { λ r. ⌜ r ≡ extentOf (rowOf messagetype p) (now (s .entry)) ⌝ }
+    ensures { λ _. ⌜ now (d .exit) ≡ laid (fiveOf (rowOf messagetype p) whole p (now (s .entry))) (now (d .entry)) ⌝ }
 {
     let at = whole - SUM_BYTES - s.len();
     match shape_at(messagetype, p) {
         Shape::Number(width) => {
-            lay_five(d, p, NUMBER, at, width, number_in(s, width));
+            lay_five(d, p, NUMBER, at, width, number_in(width, s));
             width
         }
         Shape::Decimal => {
@@ -127,11 +130,12 @@ fn lay_field(d: &mut [u64], messagetype: u8, map: &[u8], p: usize, whole: usize,
 // are a word, and the body's bytes from the next field on are `rest`.
 fn lay_fields(d: &mut [u64], s: &[u8], header: Header, whole: usize) -> usize
     requires { ⌜ (readOf (now s) ≡ Good header whole) × (length (listBy (now s) (readOf (now s))) ≤ length (now d)) ⌝ }
-    ensures { λ r. ⌜ (r ≡ length (listBy (now (s .entry)) (readOf (now (s .entry))))) × (now (d .exit) ≡ laid (listBy (now (s .entry)) (readOf (now (s .entry)))) (now (d .entry))) ⌝ }
+    ensures { λ r. ⌜ r ≡ length (listBy (now (s .entry)) (readOf (now (s .entry)))) ⌝ }
+    ensures { λ _. ⌜ now (d .exit) ≡ laid (listBy (now (s .entry)) (readOf (now (s .entry)))) (now (d .entry)) ⌝ }
 {
     let messagetype = header.messagetype;
     let map = map_in(s);
-    let mut rest = body_in(s, whole);
+    let mut rest = body_in(whole, s);
     let mut left = head(map);
     let mut laid: usize = 0;
     while left != 0 {
@@ -162,7 +166,8 @@ fn count_set(map: &[u8]) -> usize
 // Reads the message at the front of s and lays all its fields into the list: the reader's refusals, then 11 with the numbers needed.
 // A list that has room for 64 fields has room for every message's, and they need not be counted first.
 pub fn list_fields(d: &mut [u64], s: &[u8]) -> Listed
-    ensures { λ r. ⌜ (r ≡ listFields (now (s .entry)) (now (d .entry))) × (now (d .exit) ≡ laid (listBy (now (s .entry)) (readOf (now (s .entry)))) (now (d .entry))) ⌝ }
+    ensures { λ r. ⌜ r ≡ listFields (now (s .entry)) (now (d .entry)) ⌝ }
+    ensures { λ _. ⌜ now (d .exit) ≡ laid (listBy (now (s .entry)) (readOf (now (s .entry)))) (now (d .entry)) ⌝ }
 {
     match read(s) {
         Reading::Good { header, length } => {

@@ -24,7 +24,7 @@ fn read_whole(s: &[u8], length: usize) -> Reading
 {
     let header = header_in(s);
     let named = 1 <= comp_id_in(s).len();
-    match vet_named(header, named, map_in(s), body_in(s, length)) {
+    match vet_named(header, named, map_in(s), body_in(length, s)) {
         Vetted::Good(_) => Reading::Good { header, length },
         Vetted::Refused(refusal) => Reading::Refused(refusal),
     }
@@ -72,7 +72,7 @@ pub fn body(s: &[u8]) -> &[u8]
     ensures { λ r. ⌜ now r ≡ bodyOf (now (s .entry)) ⌝ }
 {
     match read(s) {
-        Reading::Good { header: _, length } => body_in(s, length),
+        Reading::Good { header: _, length } => body_in(length, s),
         Reading::Refused(_) => &s[..0],
     }
 }

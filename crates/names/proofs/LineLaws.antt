@@ -1,43 +1,12 @@
--- Laws of a text's lines: what the two loops ask, the one over the bytes of a line and the one over the lines.
+-- Laws of a text's lines: what the loop over them asks.
 use mathlib.Core.Path.{_≡_, refl, sym, ap, ap₂, _∙_}
-use Prim.Native.Nat.{ℕ, zero, suc, _+_, _-_, _≤_, _<_}
-use native.Mathlib.Numerals.{add-one}
+use Prim.Native.Nat.{ℕ, zero, suc, _+_, _-_, _<_}
 use native.Mathlib.Omega.{arith}
-use mathlib.Core.Bool.{Bool, true, false, cond}
-use mathlib.Core.List.{List, [], _∷_}
-use lib.Dec.{eqb}
-use lib.ListN.{length, getD, take, drop, length-drop, drop-of-length-le}
-use lib.Seq.{drop-cons, take-all}
-use borrow.Author.Tests.{eq-eqb, ne-eqb}
-use Rattle.names.specs.Lines.{lineLength, lineOf}
-
-one-more : (t : Bool) (k n : ℕ) → k ≤ n → cond t 0 (suc k) ≤ suc n
-one-more true k n h = omega arith
-one-more false k n h = omega arith
-
-pub line-within : (s : List ℕ) → lineLength s ≤ length s
-unfolding lineLength
-line-within [] = omega arith
-line-within (b ∷ s) = one-more (eqb b 10) (lineLength s) (length s) (line-within s)
-
--- the loop over the bytes of a line, where no line end stands among the first i
-module _ (s : List ℕ) (i : ℕ) (h : lineLength s ≡ i + lineLength (drop i s)) where
-  pub line-ends : length s ≤ i → i ≡ lineLength s
-  unfolding lineLength
-  line-ends l = let e : lineLength (drop i s) ≡ 0 = rw (drop-of-length-le s {i = i} l) in omega arith
-
-  module _ (l : i < length s) where
-    pub line-end-here : getD s i 0 ≡ 10 → i ≡ lineLength s
-    unfolding lineLength
-    line-end-here e =
-        let z : lineLength (drop i s) ≡ 0 = rw (drop-cons s i 0 l, eq-eqb _ _ e) in
-        omega arith
-
-    pub line-goes-on : (getD s i 0 ≡ 10 → ⊥) → lineLength s ≡ (i + 1) + lineLength (drop (i + 1) s)
-    unfolding lineLength
-    line-goes-on n =
-        let z : lineLength (drop i s) ≡ suc (lineLength (drop (i + 1) s)) = rw (drop-cons s i 0 l, ne-eqb _ _ n, add-one) in
-        omega arith
+use mathlib.Core.List.{List, []}
+use lib.ListN.{length, take, drop, length-drop, drop-of-length-le}
+use lib.Seq.{take-all}
+use Rattle.spelt.specs.Lines.{lineLength}
+use Rattle.names.specs.Lines.{lineOf}
 
 line-of-none : (n : ℕ) → lineOf n [] ≡ []
 unfolding lineOf lineLength

@@ -3,85 +3,12 @@ use mathlib.Core.Path.{_≡_, refl}
 use Prim.Native.Nat.{ℕ}
 use mathlib.Core.List.{List, [], _∷_, _++_}
 use Rattle.tables.specs.declared.dictionary.Field.{Field}
-use Rattle.tables.specs.declared.dictionary.Field.the-variants.{
-  AggressorIndicator,
-  BrokerLocationId,
-  BusinessRejectCode,
-  BusinessRejectReferenceId,
-  ClearingInstruction,
-  ClientOrderId,
-  CopyMessageIndicator,
-  CounterpartyBrokerId,
-  CumulativeQuantity,
-  EndSequence,
-  ExecType,
-  ExecutionId,
-  ExecutionPrice,
-  ExecutionQuantity,
-  ExecRestatementReason,
-  ExchangeTradeType,
-  GapFill,
-  LeavesQuantity,
-  LogoutText,
-  LookupRejectCode,
-  LotType,
-  MatchType,
-  MaxPriceLevels,
-  MessageRejectCode,
-  NewPassword,
-  NewSequenceNumber,
-  NextExpectedMessageSequence,
-  OrderId,
-  OwningBrokerId,
-  OrderQuantity,
-  OrderStatus,
-  OrderType,
-  OrderRestrictions,
-  OrderCapacity,
-  OrderCategory,
-  OriginalClientOrderId,
-  Password,
-  PositionEffect,
-  Price,
-  ProtocolType,
-  PrimaryIp,
-  PrimaryPort,
-  ReferenceExecutionId,
-  ReferenceFieldName,
-  ReferenceMessageType,
-  ReferenceSequenceNumber,
-  ReferenceTestRequestId,
-  Reason,
-  SecurityExchange,
-  SecurityId,
-  SecurityIdSource,
-  SecondaryIp,
-  SecondaryPort,
-  SessionStatus,
-  Side,
-  SmpId,
-  StartSequence,
-  Status,
-  SubmittingBrokerId,
-  Text,
-  TimeInForce,
-  TestMessageIndicator,
-  TestRequestId,
-  TransactionTime,
-  TradeType,
-  TradeReportId,
-  TradeReportTransType,
-  TradeReportType,
-  TradeReportStatus,
-  TradeId,
-  TradeMatchId,
-  TradeHandlingInstructions,
-  TypeOfService,
-}
-use Rattle.names.specs.Lines.{lineLength, lineOf}
+use Rattle.tables.specs.declared.dictionary.Field.the-variants as field
+use Rattle.spelt.specs.Lines.{lineLength}
+use Rattle.names.specs.Lines.{lineOf}
 use Rattle.tables.specs.Dictionary.{entry, rowNumber}
 use Rattle.wire.specs.Spelled.{spelled}
-use Rattle.names.specs.Names.{nameOf}
+use Rattle.names.specs.Names.{utf8, nameOf}
 
 -- the fields' names, a line end behind each
 unfoldable pub lines : List Field → List ℕ
@@ -92,153 +19,153 @@ lines (f ∷ fs) = nameOf f ++ 10 ∷ lines fs
 unfoldable pub text : List ℕ
 text =
     10 ∷ lines (
-    AggressorIndicator ∷
-    BrokerLocationId ∷
-    BusinessRejectCode ∷
-    BusinessRejectReferenceId ∷
-    ClearingInstruction ∷
-    ClientOrderId ∷
-    CopyMessageIndicator ∷
-    CounterpartyBrokerId ∷
-    CumulativeQuantity ∷
-    EndSequence ∷
-    ExecType ∷
-    ExecutionId ∷
-    ExecutionPrice ∷
-    ExecutionQuantity ∷
-    ExecRestatementReason ∷
-    ExchangeTradeType ∷
-    GapFill ∷
-    LeavesQuantity ∷
-    LogoutText ∷
-    LookupRejectCode ∷
-    LotType ∷
-    MatchType ∷
-    MaxPriceLevels ∷
-    MessageRejectCode ∷
-    NewPassword ∷
-    NewSequenceNumber ∷
-    NextExpectedMessageSequence ∷
-    OrderId ∷
-    OwningBrokerId ∷
-    OrderQuantity ∷
-    OrderStatus ∷
-    OrderType ∷
-    OrderRestrictions ∷
-    OrderCapacity ∷
-    OrderCategory ∷
-    OriginalClientOrderId ∷
-    Password ∷
-    PositionEffect ∷
-    Price ∷
-    ProtocolType ∷
-    PrimaryIp ∷
-    PrimaryPort ∷
-    ReferenceExecutionId ∷
-    ReferenceFieldName ∷
-    ReferenceMessageType ∷
-    ReferenceSequenceNumber ∷
-    ReferenceTestRequestId ∷
-    Reason ∷
-    SecurityExchange ∷
-    SecurityId ∷
-    SecurityIdSource ∷
-    SecondaryIp ∷
-    SecondaryPort ∷
-    SessionStatus ∷
-    Side ∷
-    SmpId ∷
-    StartSequence ∷
-    Status ∷
-    SubmittingBrokerId ∷
-    Text ∷
-    TimeInForce ∷
-    TestMessageIndicator ∷
-    TestRequestId ∷
-    TransactionTime ∷
-    TradeType ∷
-    TradeReportId ∷
-    TradeReportTransType ∷
-    TradeReportType ∷
-    TradeReportStatus ∷
-    TradeId ∷
-    TradeMatchId ∷
-    TradeHandlingInstructions ∷
-    TypeOfService ∷
+    field.AggressorIndicator ∷
+    field.BrokerLocationId ∷
+    field.BusinessRejectCode ∷
+    field.BusinessRejectReferenceId ∷
+    field.ClearingInstruction ∷
+    field.ClientOrderId ∷
+    field.CopyMessageIndicator ∷
+    field.CounterpartyBrokerId ∷
+    field.CumulativeQuantity ∷
+    field.EndSequence ∷
+    field.ExecType ∷
+    field.ExecutionId ∷
+    field.ExecutionPrice ∷
+    field.ExecutionQuantity ∷
+    field.ExecRestatementReason ∷
+    field.ExchangeTradeType ∷
+    field.GapFill ∷
+    field.LeavesQuantity ∷
+    field.LogoutText ∷
+    field.LookupRejectCode ∷
+    field.LotType ∷
+    field.MatchType ∷
+    field.MaxPriceLevels ∷
+    field.MessageRejectCode ∷
+    field.NewPassword ∷
+    field.NewSequenceNumber ∷
+    field.NextExpectedMessageSequence ∷
+    field.OrderId ∷
+    field.OwningBrokerId ∷
+    field.OrderQuantity ∷
+    field.OrderStatus ∷
+    field.OrderType ∷
+    field.OrderRestrictions ∷
+    field.OrderCapacity ∷
+    field.OrderCategory ∷
+    field.OriginalClientOrderId ∷
+    field.Password ∷
+    field.PositionEffect ∷
+    field.Price ∷
+    field.ProtocolType ∷
+    field.PrimaryIp ∷
+    field.PrimaryPort ∷
+    field.ReferenceExecutionId ∷
+    field.ReferenceFieldName ∷
+    field.ReferenceMessageType ∷
+    field.ReferenceSequenceNumber ∷
+    field.ReferenceTestRequestId ∷
+    field.Reason ∷
+    field.SecurityExchange ∷
+    field.SecurityId ∷
+    field.SecurityIdSource ∷
+    field.SecondaryIp ∷
+    field.SecondaryPort ∷
+    field.SessionStatus ∷
+    field.Side ∷
+    field.SmpId ∷
+    field.StartSequence ∷
+    field.Status ∷
+    field.SubmittingBrokerId ∷
+    field.Text ∷
+    field.TimeInForce ∷
+    field.TestMessageIndicator ∷
+    field.TestRequestId ∷
+    field.TransactionTime ∷
+    field.TradeType ∷
+    field.TradeReportId ∷
+    field.TradeReportTransType ∷
+    field.TradeReportType ∷
+    field.TradeReportStatus ∷
+    field.TradeId ∷
+    field.TradeMatchId ∷
+    field.TradeHandlingInstructions ∷
+    field.TypeOfService ∷
     [])
 
 pub name-stands : (f : Field) → lineOf (rowNumber f) text ≡ nameOf f
-unfolding lineLength lineOf spelled nameOf entry rowNumber lines text
-name-stands AggressorIndicator = refl
-name-stands BrokerLocationId = refl
-name-stands BusinessRejectCode = refl
-name-stands BusinessRejectReferenceId = refl
-name-stands ClearingInstruction = refl
-name-stands ClientOrderId = refl
-name-stands CopyMessageIndicator = refl
-name-stands CounterpartyBrokerId = refl
-name-stands CumulativeQuantity = refl
-name-stands EndSequence = refl
-name-stands ExecType = refl
-name-stands ExecutionId = refl
-name-stands ExecutionPrice = refl
-name-stands ExecutionQuantity = refl
-name-stands ExecRestatementReason = refl
-name-stands ExchangeTradeType = refl
-name-stands GapFill = refl
-name-stands LeavesQuantity = refl
-name-stands LogoutText = refl
-name-stands LookupRejectCode = refl
-name-stands LotType = refl
-name-stands MatchType = refl
-name-stands MaxPriceLevels = refl
-name-stands MessageRejectCode = refl
-name-stands NewPassword = refl
-name-stands NewSequenceNumber = refl
-name-stands NextExpectedMessageSequence = refl
-name-stands OrderId = refl
-name-stands OwningBrokerId = refl
-name-stands OrderQuantity = refl
-name-stands OrderStatus = refl
-name-stands OrderType = refl
-name-stands OrderRestrictions = refl
-name-stands OrderCapacity = refl
-name-stands OrderCategory = refl
-name-stands OriginalClientOrderId = refl
-name-stands Password = refl
-name-stands PositionEffect = refl
-name-stands Price = refl
-name-stands ProtocolType = refl
-name-stands PrimaryIp = refl
-name-stands PrimaryPort = refl
-name-stands ReferenceExecutionId = refl
-name-stands ReferenceFieldName = refl
-name-stands ReferenceMessageType = refl
-name-stands ReferenceSequenceNumber = refl
-name-stands ReferenceTestRequestId = refl
-name-stands Reason = refl
-name-stands SecurityExchange = refl
-name-stands SecurityId = refl
-name-stands SecurityIdSource = refl
-name-stands SecondaryIp = refl
-name-stands SecondaryPort = refl
-name-stands SessionStatus = refl
-name-stands Side = refl
-name-stands SmpId = refl
-name-stands StartSequence = refl
-name-stands Status = refl
-name-stands SubmittingBrokerId = refl
-name-stands Text = refl
-name-stands TimeInForce = refl
-name-stands TestMessageIndicator = refl
-name-stands TestRequestId = refl
-name-stands TransactionTime = refl
-name-stands TradeType = refl
-name-stands TradeReportId = refl
-name-stands TradeReportTransType = refl
-name-stands TradeReportType = refl
-name-stands TradeReportStatus = refl
-name-stands TradeId = refl
-name-stands TradeMatchId = refl
-name-stands TradeHandlingInstructions = refl
-name-stands TypeOfService = refl
+unfolding lineLength lineOf spelled utf8 nameOf entry rowNumber lines text
+name-stands field.AggressorIndicator = refl
+name-stands field.BrokerLocationId = refl
+name-stands field.BusinessRejectCode = refl
+name-stands field.BusinessRejectReferenceId = refl
+name-stands field.ClearingInstruction = refl
+name-stands field.ClientOrderId = refl
+name-stands field.CopyMessageIndicator = refl
+name-stands field.CounterpartyBrokerId = refl
+name-stands field.CumulativeQuantity = refl
+name-stands field.EndSequence = refl
+name-stands field.ExecType = refl
+name-stands field.ExecutionId = refl
+name-stands field.ExecutionPrice = refl
+name-stands field.ExecutionQuantity = refl
+name-stands field.ExecRestatementReason = refl
+name-stands field.ExchangeTradeType = refl
+name-stands field.GapFill = refl
+name-stands field.LeavesQuantity = refl
+name-stands field.LogoutText = refl
+name-stands field.LookupRejectCode = refl
+name-stands field.LotType = refl
+name-stands field.MatchType = refl
+name-stands field.MaxPriceLevels = refl
+name-stands field.MessageRejectCode = refl
+name-stands field.NewPassword = refl
+name-stands field.NewSequenceNumber = refl
+name-stands field.NextExpectedMessageSequence = refl
+name-stands field.OrderId = refl
+name-stands field.OwningBrokerId = refl
+name-stands field.OrderQuantity = refl
+name-stands field.OrderStatus = refl
+name-stands field.OrderType = refl
+name-stands field.OrderRestrictions = refl
+name-stands field.OrderCapacity = refl
+name-stands field.OrderCategory = refl
+name-stands field.OriginalClientOrderId = refl
+name-stands field.Password = refl
+name-stands field.PositionEffect = refl
+name-stands field.Price = refl
+name-stands field.ProtocolType = refl
+name-stands field.PrimaryIp = refl
+name-stands field.PrimaryPort = refl
+name-stands field.ReferenceExecutionId = refl
+name-stands field.ReferenceFieldName = refl
+name-stands field.ReferenceMessageType = refl
+name-stands field.ReferenceSequenceNumber = refl
+name-stands field.ReferenceTestRequestId = refl
+name-stands field.Reason = refl
+name-stands field.SecurityExchange = refl
+name-stands field.SecurityId = refl
+name-stands field.SecurityIdSource = refl
+name-stands field.SecondaryIp = refl
+name-stands field.SecondaryPort = refl
+name-stands field.SessionStatus = refl
+name-stands field.Side = refl
+name-stands field.SmpId = refl
+name-stands field.StartSequence = refl
+name-stands field.Status = refl
+name-stands field.SubmittingBrokerId = refl
+name-stands field.Text = refl
+name-stands field.TimeInForce = refl
+name-stands field.TestMessageIndicator = refl
+name-stands field.TestRequestId = refl
+name-stands field.TransactionTime = refl
+name-stands field.TradeType = refl
+name-stands field.TradeReportId = refl
+name-stands field.TradeReportTransType = refl
+name-stands field.TradeReportType = refl
+name-stands field.TradeReportStatus = refl
+name-stands field.TradeId = refl
+name-stands field.TradeMatchId = refl
+name-stands field.TradeHandlingInstructions = refl
+name-stands field.TypeOfService = refl

@@ -1,26 +1,13 @@
 // The fields' names as 004 section 8.2 writes them, in UTF-8.
+use spelt::line_length;
 use tables::dictionary::Field;
 use tables::dictionary::row_number;
 use wire::laying::Laid;
 use wire::laying::put_bytes;
 ghost use mathlib.Core.Path.{_≡_};
 ghost use Rattle.wire.specs.Laying.{Lays};
-ghost use Rattle.names.specs.Lines.{lineLength, lineOf};
+ghost use Rattle.names.specs.Lines.{lineOf};
 ghost use Rattle.names.specs.Names.{nameOf};
-
-// How many bytes stand before the first line end, or all where there is none.
-fn line_length(s: &[u8]) -> usize
-    ensures { λ r. ⌜ r ≡ lineLength (now (s .entry)) ⌝ }
-{
-    let mut i = 0;
-    while i < s.len() {
-        if s[i] == b'\n' {
-            return i;
-        }
-        i += 1;
-    }
-    i
-}
 
 // Line n of s, counted from 0, without its line end; empty where there is none.
 fn line<'a>(s: &'a [u8], n: usize) -> &'a [u8]

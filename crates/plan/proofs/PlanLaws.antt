@@ -4,7 +4,7 @@ use Prim.Native.Nat.{ℕ, _+_, _-_, _*_, _≤_, _<_, min}
 use native.Mathlib.Nat.{le-min, min-le-right}
 use native.Mathlib.Numerals.{add-one}
 use native.Mathlib.Omega.{arith}
-use mathlib.Core.Bool.{Bool, true, false, cond}
+use mathlib.Core.Bool.{Bool, true, false, cond, _&&_, _||_}
 use mathlib.Core.List.{List, [], _∷_, _++_, append-assoc, append-nil}
 use lib.Dec.{eqb, leb}
 use lib.ListN.{length, getD, set, take, drop, drop-of-length-le, length-append, length-set, take-append-drop}
@@ -146,7 +146,7 @@ unfolding isRequest lastNumber
 requested list s e q = go (leb (length list) 65536) (allMarked list) (leb 1 s) (leb s (length list)) (eqb e 0) (leb s e) refl refl refl refl refl refl q
   where
     go : (a b c d f g : Bool) → leb (length list) 65536 ≡ a → allMarked list ≡ b → leb 1 s ≡ c → leb s (length list) ≡ d → eqb e 0 ≡ f → leb s e ≡ g
-        → cond a (cond b (cond c (cond d (cond f true g) false) false) false) false ≡ true → Request list s e
+        → (a && b && c && d && (f || g)) ≡ true → Request list s e
     go false b c d f g ea eb ec ed ef eg q = let z : _≡_ {A = ℕ} 0 1 = cc in absurd (omega arith)
     go true false c d f g ea eb ec ed ef eg q = let z : _≡_ {A = ℕ} 0 1 = cc in absurd (omega arith)
     go true true false d f g ea eb ec ed ef eg q = let z : _≡_ {A = ℕ} 0 1 = cc in absurd (omega arith)

@@ -12,39 +12,23 @@ use lib.ListN.{length, getD, take, drop, List·getD-eq-default}
 use lib.Seq.{getD-drop, getD-take, length-slice}
 use borrow.Author.Tests.{eq-eqb, ne-eqb, le-leb, lt-leb, lt-ltb, le-ltb, ltb-true, ltb-false, leb-true}
 use Rattle.plan.specs.Plan.{Part, business, gapFill, session, partsFrom, lastNumber, partsOf, allMarked, isRequest}
+use Rattle.plan.specs.Shape.{within, isMarked, names, covers, times}
 use Rattle.plan.proofs.PlanLaws.{Request, requested, last-within}
 
 -- ---- the words
 
--- k is one of n, .., m - 1
-unfoldable pub within : ℕ → ℕ → ℕ → Bool
-within n m k = cond (leb n k) (ltb k m) false
-
--- part p says that k is a business number
-unfoldable pub names : ℕ → Part → Bool
-names k p = cond (eqb (p .new) 0) (eqb (p .first) k) false
-
--- part p is a gap fill over k: New is the number after its last
-unfoldable pub covers : ℕ → Part → Bool
-covers k p = within (p .first) (p .new) k
-
-abbrev pub once : Bool → ℕ
+abbrev once : Bool → ℕ
 once t = cond t 1 0
 
--- how many parts of a plan are of a kind
-unfoldable pub times : (Part → Bool) → List Part → ℕ
-times f [] = 0
-times f (p ∷ ps) = once (f p) + times f ps
-
-abbrev pub partAt : List Part → ℕ → Part
+abbrev partAt : List Part → ℕ → Part
 partAt ps i = getD ps i (business 0)
 
 -- of two parts, the later begins at a higher number
-abbrev pub Rising : List Part → Type 0
+abbrev Rising : List Part → Type 0
 Rising ps = (i j : ℕ) → i < j → j < length ps → partAt ps i .first < partAt ps j .first
 
 -- of two gap fills, the later begins past the number that follows the earlier
-abbrev pub Apart : List Part → Type 0
+abbrev Apart : List Part → Type 0
 Apart ps = (i j : ℕ) → i < j → j < length ps → 0 < partAt ps i .new → 0 < partAt ps j .new → partAt ps i .new < partAt ps j .first
 
 -- the parts stand for n, .., m - 1 without a hole, and what follows a gap fill is a business number
@@ -292,14 +276,6 @@ named-at (suc i) n (b ∷ bs) =
 
 -- ---- the plan of a request
 
--- k is a business number from s to e
-unfoldable pub isBusiness : List ℕ → ℕ → ℕ → ℕ → Bool
-isBusiness list s e k = cond (within s (lastNumber list e + 1) k) (eqb (getD list (k - 1) 0) 1) false
-
--- k is a session number from s to e
-unfoldable pub isSession : List ℕ → ℕ → ℕ → ℕ → Bool
-isSession list s e k = cond (within s (lastNumber list e + 1) k) (eqb (getD list (k - 1) 0) 0) false
-
 marked-cons : (b : ℕ) (l : List ℕ) → allMarked (b ∷ l) ≡ true → (b ≤ 1) × (allMarked l ≡ true)
 unfolding allMarked
 marked-cons b l a = go (leb b 1) refl a
@@ -343,15 +319,18 @@ module _ (list : List ℕ) (s e : ℕ) (q : isRequest list s e ≡ true) where
       omega (arith, length-slice (s - 1) (lastNumber list e) list (last-within list e), r .from-one, r .up-to-last) in
       subst (λ (m : ℕ). Follows s m (partsOf list s e)) n (follows s (drop (s - 1) (take (lastNumber list e) list)))
 
-  pub plan-rising : Rising (partsOf list s e)
+  -- of two parts, the later begins at a higher number
+  pub plan-rising : (i j : ℕ) → i < j → j < length (partsOf list s e) → getD (partsOf list s e) i (business 0) .first < getD (partsOf list s e) j (business 0) .first
   plan-rising = rising plan-follows
 
-  pub plan-apart : Apart (partsOf list s e)
+  -- of two gap fills, the later begins past the number that follows the earlier
+  pub plan-apart : (i j : ℕ) → i < j → j < length (partsOf list s e) → 0 < getD (partsOf list s e) i (business 0) .new
+      → 0 < getD (partsOf list s e) j (business 0) .new → getD (partsOf list s e) i (business 0) .new < getD (partsOf list s e) j (business 0) .first
   plan-apart = apart plan-follows
 
   -- the plan names the business numbers from s to e, each once, and no other number
-  pub business-once : (k : ℕ) → times (names k) (partsOf list s e) ≡ once (isBusiness list s e k)
-  unfolding partsOf isBusiness
+  pub business-once : (k : ℕ) → times (names k) (partsOf list s e) ≡ cond (isMarked 1 list s e k) 1 0
+  unfolding partsOf isMarked
   business-once k = low (lt-or-le k s)
     where
       marks : List ℕ
@@ -372,8 +351,8 @@ module _ (list : List ℕ) (s e : ℕ) (q : isRequest list s e ≡ true) where
       low (inr a) = high a (lt-or-le k (lastNumber list e + 1))
 
   -- its gap fills cover the session numbers from s to e, each by one, and no other number
-  pub session-once : (k : ℕ) → times (covers k) (partsOf list s e) ≡ once (isSession list s e k)
-  unfolding isBusiness isSession
+  pub session-once : (k : ℕ) → times (covers k) (partsOf list s e) ≡ cond (isMarked 0 list s e k) 1 0
+  unfolding isMarked
   session-once k = go (within s (lastNumber list e + 1) k) (tally plan-follows k) (business-once k)
     where
       go : (t : Bool) → times (names k) (partsOf list s e) + times (covers k) (partsOf list s e) ≡ once t
@@ -383,8 +362,8 @@ module _ (list : List ℕ) (s e : ℕ) (q : isRequest list s e ≡ true) where
       go false a b = omega (arith, a, b)
 
   -- a gap fill is a longest run: neither the number before it nor the one after it is a session number from s to e
-  pub plan-longest : (i : ℕ) → i < length (partsOf list s e) → 0 < partAt (partsOf list s e) i .new
-      → (isSession list s e (partAt (partsOf list s e) i .first - 1) ≡ false) × (isSession list s e (partAt (partsOf list s e) i .new) ≡ false)
+  pub plan-longest : (i : ℕ) → i < length (partsOf list s e) → 0 < getD (partsOf list s e) i (business 0) .new
+      → (isMarked 0 list s e (getD (partsOf list s e) i (business 0) .first - 1) ≡ false) × (isMarked 0 list s e (getD (partsOf list s e) i (business 0) .new) ≡ false)
   plan-longest i h a =
       let p = partAt (partsOf list s e) i in (
         none-once _ (sym (session-once (p .first - 1)) ∙ uncovered-before plan-follows (requested list s e q .from-one) i h a),

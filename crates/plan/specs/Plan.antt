@@ -1,9 +1,10 @@
 -- The bench's resend plan (document 01, "The bench's resend plan"): what a gateway sends again for a Resend Request from s to e.
 use Prim.Native.Nat.{ℕ, _+_, _-_, _*_, min}
-use mathlib.Core.Bool.{Bool, true, false, cond}
+use mathlib.Core.Bool.{Bool, true, false, cond, _&&_, _||_}
 use mathlib.Core.List.{List, [], _∷_, _++_}
 use lib.Dec.{eqb, leb, ltb}
 use lib.ListN.{length, take, drop}
+use Rattle.wire.specs.Laying.{noRoom}
 use Rattle.plan.specs.declared.Planned.{Planned}
 use Rattle.plan.specs.declared.Planned.the-variants.{Wrote, BadRequest, NoRoom}
 
@@ -11,7 +12,7 @@ use Rattle.plan.specs.declared.Planned.the-variants.{Wrote, BadRequest, 
 unfoldable pub refusal : Planned → ℕ
 refusal (Wrote pairs) = 0
 refusal BadRequest = 40
-refusal (NoRoom pairs) = 11
+refusal (NoRoom pairs) = noRoom
 
 -- one part of a plan: business number `first`, with `new` 0, or a gap fill from `first` to `new`
 pub record Part : Type 0 where
@@ -34,6 +35,10 @@ unfoldable pub partsFrom : ℕ → List ℕ → List Part
 partsFrom n [] = []
 partsFrom n (b ∷ bs) = cond (eqb b 1) (business n ∷ partsFrom (n + 1) bs) (session n (partsFrom (n + 1) bs))
 
+-- those behind the first i numbers of the list
+abbrev pub partsAt : List ℕ → ℕ → List Part
+partsAt list i = partsFrom (i + 1) (drop i list)
+
 -- End 0 or too large is the last number
 unfoldable pub lastNumber : List ℕ → ℕ → ℕ
 lastNumber list e = cond (eqb e 0) (length list) (min e (length list))
@@ -47,23 +52,22 @@ unfoldable pub allMarked : List ℕ → Bool
 allMarked [] = true
 allMarked (b ∷ bs) = cond (leb b 1) (allMarked bs) false
 
+-- the most numbers of a list
+abbrev pub longestList : ℕ
+longestList = 65536
+
 -- 40: list too long, another byte value, s of 0 or past the list, e not 0 and below s
 unfoldable pub isRequest : List ℕ → ℕ → ℕ → Bool
-isRequest list s e =
-    cond (leb (length list) 65536) (
-    cond (allMarked list) (
-    cond (leb 1 s) (
-    cond (leb s (length list)) (
-    cond (eqb e 0) true (leb s e))
-    false)
-    false)
-    false)
-    false
+isRequest list s e = leb (length list) longestList && allMarked list && leb 1 s && leb s (length list) && (eqb e 0 || leb s e)
 
 -- written as pairs of numbers
 unfoldable pub pairs : List Part → List ℕ
 pairs [] = []
 pairs (p ∷ ps) = p .first ∷ p .new ∷ pairs ps
+
+-- at the front of a lent buffer
+abbrev pub paired : List Part → List ℕ → List ℕ
+paired ps d = pairs ps ++ drop (2 * length ps) d
 
 -- the answer, and the lent buffer afterwards: nothing written on a refusal
 unfoldable pub planOf : List ℕ → ℕ → ℕ → List ℕ → Planned
@@ -76,6 +80,6 @@ planOf list s e d =
 unfoldable pub planned : List ℕ → ℕ → ℕ → List ℕ → List ℕ
 planned list s e d =
     cond (isRequest list s e) (
-    cond (leb (2 * length (partsOf list s e)) (length d)) (pairs (partsOf list s e) ++ drop (2 * length (partsOf list s e)) d)
+    cond (leb (2 * length (partsOf list s e)) (length d)) (paired (partsOf list s e) d)
     d)
     d

@@ -1,9 +1,16 @@
 // The resend plan of a gateway, for the test bench (document 01, "The bench's resend plan").
+use wire::laying::NO_ROOM;
 ghost use mathlib.Core.Path.{_≡_};
-ghost use mathlib.Core.List.{_∷_, _++_};
+ghost use mathlib.Core.List.{_∷_};
 ghost use Prim.Native.Nat.{_+_, _*_, _<_, _≤_};
-ghost use lib.ListN.{length, getD, drop};
-ghost use Rattle.plan.specs.Plan.{planOf, planned, refusal, allMarked, isRequest, lastNumber, gapFill, partsFrom, pairs};
+ghost use lib.ListN.{length, getD};
+ghost use Rattle.plan.specs.Plan.{planOf, planned, refusal, allMarked, longestList, isRequest, lastNumber, gapFill, partsAt, paired};
+
+// The most numbers that a list may have.
+const LONGEST_LIST: usize = 65536;
+
+// Document 01's number of a request that has no plan.
+const BAD_REQUEST: u32 = 40;
 
 // How many pairs were written; or the refusal, which has written nothing, with the number of pairs needed.
 pub enum Planned {
@@ -19,8 +26,8 @@ impl Planned {
     {
         match self {
             Planned::Wrote(_) => 0,
-            Planned::BadRequest => 40,
-            Planned::NoRoom(_) => 11,
+            Planned::BadRequest => BAD_REQUEST,
+            Planned::NoRoom(_) => NO_ROOM,
         }
     }
 }
@@ -41,7 +48,7 @@ fn all_marked(list: &[u8]) -> bool
 fn is_request(list: &[u8], s: u32, e: u32) -> bool
     ensures { λ r. ⌜ r ≡ isRequest (now (list .entry)) s e ⌝ }
 {
-    if 65536 < list.len() {
+    if LONGEST_LIST < list.len() {
         return false;
     }
     if !all_marked(list) {
@@ -71,7 +78,7 @@ fn last_number(list: &[u8], e: u32) -> usize
 // Number i + 1 stands at index i. A run of session numbers begins there: the index after it.
 fn run_end(list: &[u8], i: usize) -> usize
     requires { ⌜ (i < length (now list)) × (getD (now list) i 0 ≡ 1 → ⊥) ⌝ }
-    ensures { λ r. ⌜ (i < r) × (r ≤ length (now (list .entry))) × (partsFrom (i + 1) (drop i (now (list .entry))) ≡ gapFill (i + 1) (r + 1) ∷ partsFrom (r + 1) (drop r (now (list .entry)))) ⌝ }
+    ensures { λ r. ⌜ (i < r) × (r ≤ length (now (list .entry))) × (partsAt (now (list .entry)) i ≡ gapFill (i + 1) (r + 1) ∷ partsAt (now (list .entry)) r) ⌝ }
 {
     let mut end = i + 1;
     while end < list.len() {
@@ -91,8 +98,9 @@ struct Reach {
 
 // The part whose first number is i + 1.
 fn part_at(list: &[u8], i: usize) -> Reach
-    requires { ⌜ (i < length (now list)) × (length (now list) ≤ 65536) ⌝ }
-    ensures { λ r. ⌜ (i < r .next) × (r .next ≤ length (now (list .entry))) × (partsFrom (i + 1) (drop i (now (list .entry))) ≡ gapFill (i + 1) (r .new) ∷ partsFrom (r .next + 1) (drop (r .next) (now (list .entry)))) ⌝ }
+    requires { ⌜ (i < length (now list)) × (length (now list) ≤ longestList) ⌝ }
+    ensures { λ r. ⌜ (i < r .next) × (r .next ≤ length (now (list .entry))) ⌝ }
+    ensures { λ r. ⌜ partsAt (now (list .entry)) i ≡ gapFill (i + 1) (r .new) ∷ partsAt (now (list .entry)) (r .next) ⌝ }
 {
     if list[i] == 1 {
         return Reach {
@@ -109,8 +117,8 @@ fn part_at(list: &[u8], i: usize) -> Reach
 
 // How many parts the numbers from start + 1 on have.
 fn count_parts(list: &[u8], start: usize) -> usize
-    requires { ⌜ (start ≤ length (now list)) × (length (now list) ≤ 65536) ⌝ }
-    ensures { λ r. ⌜ (r ≡ length (partsFrom (start + 1) (drop start (now (list .entry))))) × (r ≤ 65536) ⌝ }
+    requires { ⌜ (start ≤ length (now list)) × (length (now list) ≤ longestList) ⌝ }
+    ensures { λ r. ⌜ (r ≡ length (partsAt (now (list .entry)) start)) × (r ≤ longestList) ⌝ }
 {
     let mut i = start;
     let mut count: usize = 0;
@@ -124,8 +132,8 @@ fn count_parts(list: &[u8], start: usize) -> usize
 
 // Writes those parts to the front of d.
 fn write_parts(list: &[u8], start: usize, d: &mut [u32])
-    requires { ⌜ (start ≤ length (now list)) × (length (now list) ≤ 65536) × (2 * length (partsFrom (start + 1) (drop start (now list))) ≤ length (now d)) ⌝ }
-    ensures { λ _. ⌜ now (d .exit) ≡ pairs (partsFrom (start + 1) (drop start (now (list .entry)))) ++ drop (2 * length (partsFrom (start + 1) (drop start (now (list .entry))))) (now (d .entry)) ⌝ }
+    requires { ⌜ (start ≤ length (now list)) × (length (now list) ≤ longestList) × (2 * length (partsAt (now list) start) ≤ length (now d)) ⌝ }
+    ensures { λ _. ⌜ now (d .exit) ≡ paired (partsAt (now (list .entry)) start) (now (d .entry)) ⌝ }
 {
     let mut i = start;
     let mut at: usize = 0;

@@ -30,6 +30,7 @@ use message::refusal::SHORT;
 use message::vet::is_comp_id;
 use names::put_name;
 use session::state::Code;
+use session::state::LAST;
 use session::state::ROW_BUSINESS;
 use session::state::ROW_FILLED;
 use session::state::ROW_RESET;
@@ -64,7 +65,7 @@ const SENDS: usize = 2 * A_SEND;
 // What was asked for on the command line. A Comp ID of zeros: none was given.
 struct Asked {
     good: bool,
-    ours: [u8; 12],
+    ours: [u8; COMP_ID_BYTES],
     expected: u32,
     own: u32,
     path: usize,
@@ -690,7 +691,7 @@ fn run(
 // Before the first byte: our Comp ID, or one that stands in.
 fn connect(view: View, asked: Asked, out: &mut [u8]) -> View {
     let ours = asked.ours;
-    let comp = fixed_part(&ours, COMP_ID_BYTES);
+    let comp = fixed_part(COMP_ID_BYTES, &ours);
     if is_comp_id(comp) {
         return begin(view, comp, true, asked, out);
     }
@@ -741,6 +742,9 @@ struct Number {
     value: u32,
 }
 
+// The most that E and O can be.
+const MOST: u64 = LAST as u64;
+
 // The digit that a character stands for; 10 where it is none.
 fn digit_of(b: u8) -> u64
     ensures { λ r. ⌜ r ≤ 10 ⌝ }
@@ -766,7 +770,7 @@ fn number_in(s: &[u8]) -> Number {
             };
         }
         n = n * 10 + digit;
-        if 4294967295 < n {
+        if MOST < n {
             return Number {
                 good: false,
                 value: 0,
@@ -796,14 +800,21 @@ fn begins(s: &[u8], text: &[u8]) -> bool {
 }
 
 // Our Comp ID in plain form; zeros where it is no Comp ID.
-fn plain_comp_id(text: &[u8]) -> [u8; 12] {
-    let mut bytes = [0u8; 12];
+fn plain_comp_id(text: &[u8]) -> [u8; COMP_ID_BYTES] {
+    let mut bytes = [0u8; COMP_ID_BYTES];
     put_fixed(&mut bytes, 12, text);
     bytes
 }
 
 impl Asked {
-    fn with(self, good: bool, ours: [u8; 12], expected: u32, own: u32, path: usize) -> Asked {
+    fn with(
+        self,
+        good: bool,
+        ours: [u8; COMP_ID_BYTES],
+        expected: u32,
+        own: u32,
+        path: usize,
+    ) -> Asked {
         Asked {
             good,
             ours,
@@ -846,7 +857,7 @@ fn hear() -> Asked {
     let count = os::arg_count();
     let mut asked = Asked {
         good: true,
-        ours: [0u8; 12],
+        ours: [0u8; COMP_ID_BYTES],
         expected: 1,
         own: 1,
         path: 0,

@@ -27,7 +27,7 @@ use Rattle.message.specs.declared.vet.Vetted.the-variants as vetted
 use Rattle.message.specs.Frame.{headerIn, compIdIn, mapIn, bodyIn, lengthIn, framed, lengthBy, frontLength}
 use Rattle.message.specs.Read.{readVetted, readWhole, readFramed, readOf}
 use Rattle.message.specs.Refusal.{numberOf}
-use Rattle.message.specs.Vet.{goodHeader, vetWalk, vetMissing, vetUnknown, vetFields, vet}
+use Rattle.message.specs.Vet.{goodHeader, vetWalk, vetPlace, vetSets, vetFields, vet}
 use Rattle.message.proofs.FrameLaws.{framed-by, front-short, front-other, front-by}
 
 module _ (s : List ℕ) (h : Header) (n : ℕ) where
@@ -56,22 +56,21 @@ unfolding vetWalk numberOf
 late-walk (Done left plain) = either Late (eqb left 0) (λ e. good) (λ e. refused (omega arith))
 late-walk (BadAt p Field) = refused {r = BadField p} (omega arith)
 
-late-missing : (p : Place) {v : Vetted} → Late v → Late (vetMissing p v)
-unfolding vetMissing numberOf
-late-missing (At p) l = refused {r = MissingField p} (omega arith)
-late-missing Nowhere l = l
+late-place : (r : ℕ → Refusal) (p : Place) {v : Vetted} → ((k : ℕ) → 5 ≤ numberOf (r k)) → Late v → Late (vetPlace r p v)
+unfolding vetPlace
+late-place r (At p) h l = refused {r = r p} (h p)
+late-place r Nowhere h l = l
 
-late-unknown : (p : Place) {v : Vetted} → Late v → Late (vetUnknown p v)
-unfolding vetUnknown numberOf
-late-unknown (At p) l = refused {r = UnknownPosition p} (omega arith)
-late-unknown Nowhere l = l
+late-sets : (u m : Place) {v : Vetted} → Late v → Late (vetSets u m v)
+unfolding vetSets numberOf
+late-sets u m l = late-place UnknownPosition u (λ k. omega arith) (late-place MissingField m (λ k. omega arith) l)
 
 late : (h : Header) (compId m body : List ℕ) → Late (vet h compId m body)
 unfolding vet vetFields numberOf
 late h compId m body =
     either Late (isType (h .messagetype))
     (λ a. either Late (goodHeader h compId)
-    (λ b. late-unknown (lowestUnknown (rowOf (h .messagetype)) m) (late-missing (lowestMissing (rowOf (h .messagetype)) m) (late-walk (walkOf (rowOf (h .messagetype)) m body))))
+    (λ b. late-sets (lowestUnknown (rowOf (h .messagetype)) m) (lowestMissing (rowOf (h .messagetype)) m) (late-walk (walkOf (rowOf (h .messagetype)) m body)))
     (λ b. refused (omega arith)))
     (λ a. refused (omega arith))
 

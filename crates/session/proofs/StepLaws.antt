@@ -19,7 +19,7 @@ use Rattle.message.specs.declared.refusal.Refusal.{Refusal}
 use Rattle.message.specs.declared.refusal.Refusal.the-variants as refusal
 use Rattle.message.specs.Frame.{lengthIn, compIdIn, mapIn, bodyIn, framedBy, framed, lengthBy, frontLength}
 use Rattle.message.specs.Read.{readFramed, readOf}
-use Rattle.message.specs.Refusal.{numberOf}
+use Rattle.message.specs.Refusal.{numberOf, besidesOf}
 use Rattle.message.proofs.FrameLaws.{framed-by, front-by, own-comp-id, own-map, own-body, framed-more}
 use Rattle.message.proofs.ReadLaws.{WholeAt, read-front, read-more}
 use Rattle.session.specs.declared.arrival.Arrival.the-variants.{Good}
@@ -33,7 +33,7 @@ use Rattle.session.specs.declared.state.State.the-variants.{Down, Waitin
 use Rattle.session.specs.declared.state.Stepped.{Stepped}
 use Rattle.session.specs.Arrival.{isOurs, messageIn, arrivalBy, arrivalOf}
 use Rattle.session.specs.Day.{refused, arrived, stepIn, stepBy, step}
-use Rattle.session.specs.State.{last, codeNumber, leave}
+use Rattle.session.specs.State.{last, codeNumber, codeBesides, leave}
 use Rattle.session.proofs.SessionLaws.{spoiled-nothing}
 
 -- what the frame can find: a message of 58 bytes or more, its checksum right or spoiled; or it refuses with 1, 2 or 3
@@ -112,6 +112,11 @@ module _ (s : Session) (left : List ℕ) (up : s .state ≡ Down → ⊥) where
   pub short-code : (n : ℕ) → readOf left ≡ reading.Refused (refusal.Short n) → codeNumber (step s left .answer .code) ≡ 1
   unfolding numberOf codeNumber
   short-code n e = ap codeNumber (spoiled-nothing s left (refusal.Short n) up e (inl refl) .code)
+
+  -- and say how many are needed
+  pub short-needs : (n : ℕ) → readOf left ≡ reading.Refused (refusal.Short n) → codeBesides (step s left .answer .code) ≡ n
+  unfolding numberOf besidesOf codeBesides
+  short-needs n e = ap codeBesides (spoiled-nothing s left (refusal.Short n) up e (inl refl) .code)
 
   -- a step that neither met 1 nor left the session Down had a message of 58 bytes or more
   pub step-uses : (codeNumber (step s left .answer .code) ≡ 1 → ⊥) → (step s left .session .state ≡ Down → ⊥) → 58 ≤ frontLength left

@@ -2,7 +2,9 @@
 -- `Standing`. E is `expected`, M is `ahead`.
 use Prim.Native.Nat.{ℕ, _+_, _≤_}
 use mathlib.Core.Path.{_≡_}
+use mathlib.Core.Bool.{cond}
 use mathlib.Core.List.{List}
+use lib.Dec.{eqb}
 use Rattle.session.specs.declared.state.Code.{Code}
 use Rattle.session.specs.declared.state.Row.{Row}
 use Rattle.session.specs.declared.state.Row.the-variants as row
@@ -11,16 +13,11 @@ use Rattle.session.specs.declared.state.Session.{Session}
 use Rattle.session.specs.declared.state.State.the-variants.{Down, Waiting}
 use Rattle.session.specs.declared.state.Stepped.{Stepped}
 use Rattle.session.specs.Day.{fresh, saved, connect, drop, step}
-use Rattle.session.specs.State.{last}
+use Rattle.session.specs.State.{last, sortNumber, lastOf}
 
--- E after a row: a business or session row for n makes it n + 1, a filled or reset row one past its last number (which is New - 1), and without a row it
--- stays
+-- E after a row: one past its last number, which of a filled or reset row is New - 1; without a row it stays
 unfoldable pub expectedBy : ℕ → Row → ℕ
-expectedBy e row.Nothing = e
-expectedBy e (row.Business n) = n + 1
-expectedBy e (row.Session n) = n + 1
-expectedBy e (row.Filled first final) = final + 1
-expectedBy e (row.Reset first final) = final + 1
+expectedBy e r = cond (eqb (sortNumber r) (sortNumber row.Nothing)) e (lastOf r + 1)
 
 -- t can follow s: after a step on some bytes, after Connect with some password, after Drop
 pub data Follows (s : Session) : Session → Type 0 where

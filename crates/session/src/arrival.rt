@@ -31,7 +31,8 @@ ghost use mathlib.Core.Path.{_≡_};
 ghost use mathlib.Core.Bool.{true};
 ghost use Prim.Native.Nat.{_≤_, _<_};
 ghost use Rattle.wire.specs.Text.{fixedPart};
-ghost use Rattle.message.specs.Frame.{mapIn, bodyIn};
+ghost use Rattle.message.specs.Frame.{compIdBytes, mapIn, bodyIn};
+ghost use Rattle.session.specs.State.{last};
 ghost use Rattle.session.specs.Turn.{isDueHeader, dueLength, dueTaken, takeDue};
 ghost use Rattle.session.specs.Arrival.{sameBytes, upTo, isYes, sequenceReset, contentOf, isOurs, arrivalBy};
 
@@ -175,13 +176,13 @@ fn content_in(messagetype: u8, s: &[u8], length: usize) -> Content
     if LOOKUP_RESPONSE < messagetype {
         return Content::Business;
     }
-    content_of(messagetype, map_in(s), body_in(s, length))
+    content_of(messagetype, map_in(s), body_in(length, s))
 }
 
 // Whether two texts of twelve bytes are the same up to a null, which stands behind the first eight. Most Comp IDs that
 // are the same are found so by this quick test; where it says no, the texts are looked for and compared.
 fn is_same_start(a: &[u8], b: &[u8]) -> bool
-    ensures { λ r. ⌜ (r ≡ true → fixedPart 12 (now (a .entry)) ≡ fixedPart 12 (now (b .entry))) ⌝ }
+    ensures { λ r. ⌜ (r ≡ true → fixedPart compIdBytes (now (a .entry)) ≡ fixedPart compIdBytes (now (b .entry))) ⌝ }
 {
     if a.len() < COMP_ID_BYTES {
         return false;
@@ -206,17 +207,17 @@ fn is_same_start(a: &[u8], b: &[u8]) -> bool
 }
 
 // Comp IDs are compared by their texts: what stands after a null does not count.
-fn is_ours(ours: &[u8; 12], s: &[u8]) -> bool
+fn is_ours(ours: &[u8; COMP_ID_BYTES], s: &[u8]) -> bool
     ensures { λ r. ⌜ r ≡ isOurs (now (ours .entry)) (now (s .entry)) ⌝ }
 {
     if is_same_start(ours, comp_bytes_in(s)) {
         return true;
     }
-    is_same(fixed_part(ours, COMP_ID_BYTES), comp_id_in(s))
+    is_same(fixed_part(COMP_ID_BYTES, ours), comp_id_in(s))
 }
 
 // What was read at the front of s: a good message's fields that the rules name.
-pub(crate) fn arrival_by(ours: &[u8; 12], s: &[u8], reading: Reading) -> Arrival
+pub(crate) fn arrival_by(ours: &[u8; COMP_ID_BYTES], s: &[u8], reading: Reading) -> Arrival
     ensures { λ r. ⌜ r ≡ arrivalBy (now (ours .entry)) (now (s .entry)) reading ⌝ }
 {
     match reading {
@@ -270,7 +271,7 @@ impl Session {
 
     // Business in its turn is taken.
     fn due_taken(self) -> Session
-        requires { ⌜ self .expected < 4294967295 ⌝ }
+        requires { ⌜ self .expected < last ⌝ }
         ensures { λ r. ⌜ r ≡ dueTaken self ⌝ }
     {
         let e = self.expected;

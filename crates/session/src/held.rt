@@ -56,7 +56,7 @@ fn is_all_zero(s: &[u8]) -> bool
 fn is_plain_comp_id(ours: &[u8]) -> bool
     ensures { λ r. ⌜ r ≡ isPlainCompId (now (ours .entry)) ⌝ }
 {
-    let text = fixed_part(ours, COMP_ID_BYTES);
+    let text = fixed_part(COMP_ID_BYTES, ours);
     if text.len() == 0 {
         return false;
     }
@@ -91,7 +91,7 @@ fn is_ahead(state: u32, e: u32, o: u32, m: u32) -> bool
 }
 
 // Whether some day has such a session.
-fn is_held(state: u32, ours: &[u8; 12], e: u32, o: u32, m: u32) -> bool
+fn is_held(state: u32, ours: &[u8; COMP_ID_BYTES], e: u32, o: u32, m: u32) -> bool
     ensures { λ r. ⌜ r ≡ isHeld state (now (ours .entry)) e o m ⌝ }
 {
     if LIVE < state {
@@ -111,7 +111,7 @@ fn is_held(state: u32, ours: &[u8; 12], e: u32, o: u32, m: u32) -> bool
 
 impl Session {
     // The session of these numbers; 90 where no day has it.
-    pub fn held(state: u32, ours: [u8; 12], e: u32, o: u32, m: u32) -> Made
+    pub fn held(state: u32, ours: [u8; COMP_ID_BYTES], e: u32, o: u32, m: u32) -> Made
         ensures { λ r. ⌜ r ≡ held state ours e o m ⌝ }
     {
         if !is_held(state, &ours, e, o, m) {

@@ -11,18 +11,13 @@ use lib.Dec.{leb, eqb}
 use lib.ListN.{length, getD, take, drop, length-drop, drop-of-length-le}
 use lib.Seq.{drop-cons, take-all}
 use borrow.Author.Tests.{eq-eqb, ne-eqb, le-leb, lt-leb, leb-true, leb-false}
+use Rattle.wire.proofs.TestLaws.{both, rest-of}
 use Rattle.sheet.specs.declared.line.Kind.{Kind}
 use Rattle.sheet.specs.declared.line.Kind.the-variants.{Logon, Business, GapFill, Reset}
 use Rattle.sheet.specs.declared.line.Said.{Said}
 use Rattle.sheet.specs.declared.line.Said.the-variants as said
 use Rattle.sheet.specs.Line.{begins, after, isDigit, digitsFrom, number, mostNew, lineOf}
 use Rattle.sheet.specs.Capped.{capped, withDigit, Blind, NumberRead}
-
--- a lent part from k on
-pub rest-from : (k : ℕ) (s : List ℕ) → take (length s - k) (drop k s) ≡ drop k s
-rest-from k s =
-    let e : length (drop k s) ≤ length s - k = rw length-drop (omega arith) in
-    take-all (length s - k) (drop k s) e
 
 -- a text compared byte by byte
 module _ (w s : List ℕ) (i : ℕ) (h : i < length w) where
@@ -41,10 +36,6 @@ module _ (w s : List ℕ) (i : ℕ) (h : i < length w) where
 pub begins-done : (w s : List ℕ) (i : ℕ) → length w ≤ i → begins (drop i w) (drop i s) ≡ true
 unfolding begins
 begins-done w s i l = rw (drop-of-length-le w l)
-
-both : (a b : Bool) → cond a b false ≡ true → (a ≡ true) × (b ≡ true)
-both true b e = (refl, e)
-both false b e = let z : _≡_ {A = ℕ} 0 1 = cc in absurd (omega arith)
 
 pub begins-length : (w s : List ℕ) → begins w s ≡ true → length w ≤ length s
 unfolding begins
@@ -231,7 +222,7 @@ n-blind v w kind x y s a b =
 -- a number, the text w, and what follows: k digits are read, and the lent part after them is compared with w
 module _ (w : List ℕ) (f : ℕ → List ℕ → Said) (blind : Blind (λ v. after w (f v))) (s : List ℕ) (value k : ℕ) (r : NumberRead s value k) (n : k ≡ 0 → ⊥) where
   follows : number (λ v. after w (f v)) s ≡ after w (f value) (take (length s - k) (drop k s))
-  follows = number-good s value k r (λ v. after w (f v)) blind n ∙ ap (after w (f value)) (sym (rest-from k s))
+  follows = number-good s value k r (λ v. after w (f v)) blind n ∙ ap (after w (f value)) (sym (rest-of s k))
 
   pub follows-bad : begins w (take (length s - k) (drop k s)) ≡ false → number (λ v. after w (f v)) s ≡ said.Bad
   follows-bad e = follows ∙ after-bad w (f value) (take (length s - k) (drop k s)) e
@@ -241,10 +232,10 @@ module _ (w : List ℕ) (f : ℕ → List ℕ → Said) (blind : Blind (λ v. af
       → number (λ v. after w (f v)) s ≡ f value (take (length (take (length s - k) (drop k s)) - l) (drop l (take (length s - k) (drop k s))))
   follows-good l q e =
       let t = take (length s - k) (drop k s) in
-      follows ∙ after-good w (f value) t e ∙ ap (λ (j : ℕ). f value (drop j t)) q ∙ ap (f value) (sym (rest-from l t))
+      follows ∙ after-good w (f value) t e ∙ ap (λ (j : ℕ). f value (drop j t)) q ∙ ap (f value) (sym (rest-of t l))
 
 -- the same of a text alone
 pub text-good : (w : List ℕ) (rest : List ℕ → Said) (s : List ℕ) (l : ℕ) → length w ≡ l → begins w s ≡ true
     → after w rest s ≡ rest (take (length s - l) (drop l s))
 text-good w rest s l q e =
-    after-good w rest s e ∙ ap (λ (j : ℕ). rest (drop j s)) q ∙ ap rest (sym (rest-from l s))
+    after-good w rest s e ∙ ap (λ (j : ℕ). rest (drop j s)) q ∙ ap rest (sym (rest-of s l))

@@ -24,22 +24,9 @@ use Rattle.sheet.specs.declared.sheet.End.the-variants.{NoLine, NoRoom, 
 use Rattle.sheet.specs.declared.sheet.Taken.{Taken}
 use Rattle.sheet.specs.Line.{saidOf}
 use Rattle.sheet.specs.Print.{printed, printedBad}
-use Rattle.sheet.specs.Sheet.{messageOf, lineLength, linesOf, nextCount, Sheet, ended, followed, lineSaid, sheetFrom, sheetOf}
-use Rattle.sheet.proofs.LineLaws.{rest-from}
-
--- the first line's length, byte by byte
-module _ (s : List ℕ) (i : ℕ) where
-  pub length-here : i < length s → getD s i 0 ≡ 10 → lineLength (drop i s) ≡ 0
-  unfolding lineLength
-  length-here h e = rw (drop-cons s i 0, eq-eqb (getD s i 0) 10 e)
-
-  pub length-more : i < length s → (getD s i 0 ≡ 10 → ⊥) → lineLength (drop i s) ≡ lineLength (drop (i + 1) s) + 1
-  unfolding lineLength
-  length-more h e = rw (add-one i, drop-cons s i 0, ne-eqb (getD s i 0) 10 e) (sym (add-one _))
-
-  pub length-none : length s ≤ i → lineLength (drop i s) ≡ 0
-  unfolding lineLength
-  length-none h = rw (drop-of-length-le s h)
+use Rattle.sheet.specs.Sheet.{messageOf, linesOf, nextCount, Sheet, ended, followed, lineSaid, sheetFrom, sheetOf}
+use Rattle.spelt.specs.Lines.{lineLength}
+use Rattle.wire.proofs.TestLaws.{rest-of}
 
 -- any number of lines that is not too small gives all
 lines-enough : (j k : ℕ) (s : List ℕ) → length s ≤ j → length s ≤ k → linesOf j s ≡ linesOf k s
@@ -164,7 +151,7 @@ module _ (d₀ d text bs y : List ℕ) (w : ℕ) (q : w ≡ length text) (f : le
   behind = ap₂ (λ (i : ℕ) (x : List ℕ). drop i x) q e ∙ drop-at text (drop (length text) d₀) (length text) refl
 
   pub room-left : length (take (length d - w) (drop w d)) ≡ length d₀ - length text
-  room-left = ap length (rest-from w d ∙ behind) ∙ length-drop (length text) d₀
+  room-left = ap length (rest-of d w ∙ behind) ∙ length-drop (length text) d₀
 
   pub laid-full : length d₀ - length text < length bs → putMid w (length d - w) d y ≡ d
   unfolding laid
@@ -180,7 +167,7 @@ module _ (d₀ d text bs y : List ℕ) (w : ℕ) (q : w ≡ length text) (f : le
       let x = take (length d - w) (drop w d) in
       let v = drop (length text) d₀ in
       let l : length bs ≤ length x = omega (arith, room-left) in
-      let xv : x ≡ v = rest-from w d ∙ behind in
+      let xv : x ≡ v = rest-of d w ∙ behind in
       let yv : y ≡ bs ++ drop (length bs) v = p ∙ rw (le-leb (length bs) (length x) l) (ap (λ (z : List ℕ). bs ++ drop (length bs) z) xv) in
       let front : take w d ≡ text = ap₂ (λ (i : ℕ) (z : List ℕ). take i z) q e ∙ take-at text v (length text) refl in
       let m : length (drop w d) ≤ length d - w = rw length-drop (omega arith) in
@@ -238,7 +225,7 @@ module _ (d₀ bytes : List ℕ) (s₀ : Session) (k₀ : ℕ) where
     -- the bytes left are lent, and n is the first line's length
     module _ (n : ℕ) (q : n ≡ lineLength (take (length bytes - used) (drop used bytes))) where
       lent : take (length bytes - used) (drop used bytes) ≡ drop used bytes
-      lent = rest-from used bytes
+      lent = rest-of bytes used
 
       pub take-none : n ≡ length (take (length bytes - used) (drop used bytes))
           → Owed d₀ bytes s₀ k₀ (record { session = s; count = k; used = used; written = written; end = NoLine }) d
@@ -337,4 +324,4 @@ taking-length d₀ bytes s₀ k₀ d s k used written t =
     (omega arith, omega arith)
 
 pub lent-length : (used : ℕ) (bytes : List ℕ) → length (take (length bytes - used) (drop used bytes)) ≡ length bytes - used
-lent-length used bytes = ap length (rest-from used bytes) ∙ length-drop used bytes
+lent-length used bytes = ap length (rest-of bytes used) ∙ length-drop used bytes

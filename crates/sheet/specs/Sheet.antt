@@ -5,6 +5,7 @@ use mathlib.Core.List.{List, [], _∷_, _++_}
 use lib.Dec.{eqb, leb, ltb}
 use lib.ListN.{length, take, drop}
 use Rattle.wire.specs.Spelled.{spelled}
+use Rattle.spelt.specs.Lines.{lineLength}
 use Rattle.session.specs.declared.arrival.Content.{Content}
 use Rattle.session.specs.declared.arrival.Content.the-variants as content
 use Rattle.session.specs.declared.arrival.Message.{Message}
@@ -35,11 +36,6 @@ contentOf Reset new = content.Reset new
 
 unfoldable pub messageOf : Line → Message
 messageOf l = record { number = l .n; possdup = eqb (l .dup) 1; ours = true; content = contentOf (l .kind) (l .new) }
-
--- how many bytes stand before the first line end (10), or all where there is none
-unfoldable pub lineLength : List ℕ → ℕ
-lineLength [] = 0
-lineLength (b ∷ s) = cond (eqb b 10) 0 (suc (lineLength s))
 
 -- the whole lines of some bytes, without their ends; at most so many
 unfoldable pub linesOf : ℕ → List ℕ → List (List ℕ)

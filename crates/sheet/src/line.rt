@@ -1,9 +1,16 @@
 // One line read: kind=K n=N dup=D new=X.
+use session::state::LAST;
 ghost use mathlib.Core.Path.{_≡_};
 ghost use Prim.Native.Nat.{_≤_};
 ghost use Rattle.wire.specs.Spelled.{spelled};
 ghost use Rattle.sheet.specs.Line.{begins, after, isDigit, number, mostNew, lineOf, numbersOf, saidOf};
 ghost use Rattle.sheet.specs.Capped.{withDigit, NumberRead};
+
+// The most that a number of a message can be.
+const MOST: u64 = LAST as u64;
+
+// What stands for every number past it.
+const PAST: u64 = MOST + 1;
 
 pub enum Kind {
     Logon,
@@ -59,7 +66,7 @@ fn with_digit(value: u64, b: u8) -> u64
     ensures { λ r. ⌜ r ≡ withDigit value b ⌝ }
 {
     let x = value * 10 + (b - 48) as u64;
-    if x <= 4294967295 { x } else { 4294967296 }
+    if x <= MOST { x } else { PAST }
 }
 
 fn number_in(s: &[u8]) -> Number
@@ -84,8 +91,8 @@ fn most_new(kind: Kind) -> u64
     match kind {
         Kind::Logon => 0,
         Kind::Business => 0,
-        Kind::GapFill => 4294967295,
-        Kind::Reset => 4294967295,
+        Kind::GapFill => MOST,
+        Kind::Reset => MOST,
     }
 }
 
@@ -99,7 +106,7 @@ fn line_of(kind: Kind, n: u64, dup: u64, new: u64, s: &[u8]) -> Said
     if n < 1 {
         return Said::Bad;
     }
-    if 4294967295 < n {
+    if MOST < n {
         return Said::Bad;
     }
     if 1 < dup {

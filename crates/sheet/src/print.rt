@@ -32,7 +32,8 @@ fn put(d: &mut [u8], at: usize, w: &[u8]) -> usize
 // A label and a number behind the first `at` bytes of d.
 fn put_field(d: &mut [u8], at: usize, label: &[u8], n: u64) -> usize
     requires { ⌜ at + length (now label) + 20 ≤ length (now d) ⌝ }
-    ensures { λ r. ⌜ (r ≤ at + length (now (label .entry)) + 20) × (take r (now (d .exit)) ≡ (take at (now (d .entry)) ++ now (label .entry)) ++ numberText n) ⌝ }
+    ensures { λ r. ⌜ r ≤ at + length (now (label .entry)) + 20 ⌝ }
+    ensures { λ r. ⌜ take r (now (d .exit)) ≡ (take at (now (d .entry)) ++ now (label .entry)) ++ numberText n ⌝ }
 {
     let p = put(d, at, label);
     let laid = put_number(&mut d[p..], n);

@@ -8,11 +8,11 @@ use crate::print::put_printed;
 use session::arrival::Content;
 use session::arrival::Message;
 use session::state::Session;
+use spelt::line_length;
 ghost use mathlib.Core.Path.{_≡_};
-ghost use mathlib.Core.List.{_++_};
-ghost use Prim.Native.Nat.{_≤_};
-ghost use lib.ListN.{length, drop};
-ghost use Rattle.sheet.specs.Sheet.{contentOf, messageOf, lineLength, nextCount, sheetOf};
+ghost use lib.ListN.{length};
+ghost use Rattle.wire.specs.Laying.{atFront};
+ghost use Rattle.sheet.specs.Sheet.{contentOf, messageOf, nextCount, sheetOf};
 ghost use Rattle.sheet.specs.Sheet.{begun as begunSession};
 
 // Why the lines ended: no whole line is left, the buffer has no room for the next printed line, or a line was bad.
@@ -65,20 +65,6 @@ fn message_of(line: Line) -> Message
     }
 }
 
-// How many bytes stand before the first line end, or all where there is none.
-fn line_length(s: &[u8]) -> usize
-    ensures { λ r. ⌜ (r ≡ lineLength (now (s .entry))) × (r ≤ length (now (s .entry))) ⌝ }
-{
-    let mut i = 0;
-    while i < s.len() {
-        if s[i] == 10 {
-            return i;
-        }
-        i += 1;
-    }
-    i
-}
-
 fn next_count(k: u64) -> u64
     ensures { λ r. ⌜ r ≡ nextCount k ⌝ }
 {
@@ -87,7 +73,8 @@ fn next_count(k: u64) -> u64
 
 // Takes whole lines from s, line number `count` first, and prints them at the front of d.
 pub fn take_lines(session: Session, count: u64, s: &[u8], d: &mut [u8]) -> Taken
-    ensures { λ r. ⌜ (r ≡ sheetOf (length (now (d .entry))) session count (now (s .entry)) .taken) × (now (d .exit) ≡ sheetOf (length (now (d .entry))) session count (now (s .entry)) .text ++ drop (length (sheetOf (length (now (d .entry))) session count (now (s .entry)) .text)) (now (d .entry))) ⌝ }
+    ensures { λ r. ⌜ r ≡ sheetOf (length (now (d .entry))) session count (now (s .entry)) .taken ⌝ }
+    ensures { λ _. ⌜ now (d .exit) ≡ atFront (sheetOf (length (now (d .entry))) session count (now (s .entry)) .text) (now (d .entry)) ⌝ }
 {
     let mut day = session;
     let mut k = count;

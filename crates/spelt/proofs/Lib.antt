@@ -2,4 +2,5 @@ pub mod Again
 pub mod AmountLaws
 pub mod BehindLaws
 pub mod DigitLaws
+pub mod LineLaws
 pub mod Shortest

@@ -1,2 +1,3 @@
 pub mod Spelt
+pub mod Lines
 pub mod Texts

@@ -1,4 +1,4 @@
-// Numbers and Decimals as decimal text, laid at the front of a lent buffer.
+// Numbers and Decimals as decimal text, laid at the front of a lent buffer; and where a line of text ends.
 use wire::laying::Laid;
 use wire::laying::put_bytes;
 ghost use mathlib.Core.Path.{_≡_};
@@ -7,6 +7,7 @@ ghost use Prim.Native.Nat.{_+_, _%_, _^_, _≤_, _<_};
 ghost use lib.IntN.{natAbs};
 ghost use lib.ListN.{length, take, drop};
 ghost use Rattle.wire.specs.Laying.{laid, laidAnswer};
+ghost use Rattle.spelt.specs.Lines.{lineLength};
 ghost use Rattle.spelt.specs.Spelt.{numberText, fraction, hundredMillionths, amountText};
 
 // A number's digits: they stand in text from `from` on.
@@ -119,4 +120,18 @@ pub fn put_amount(d: &mut [u8], z: i64) -> Laid
     let mut text = [0u8; 30];
     let n = spell_amount(&mut text, z);
     put_bytes(d, &text[..n])
+}
+
+// How many bytes stand before the first line end, or all where there is none.
+pub fn line_length(s: &[u8]) -> usize
+    ensures { λ r. ⌜ (r ≡ lineLength (now (s .entry))) × (r ≤ length (now (s .entry))) ⌝ }
+{
+    let mut i = 0;
+    while i < s.len() {
+        if s[i] == b'\n' {
+            return i;
+        }
+        i += 1;
+    }
+    i
 }

@@ -7,82 +7,9 @@ use native.Mathlib.Omega.{arith}
 use lib.Dec.{eqb}
 use lib.ListN.{getD}
 use borrow.Author.Tests.{eqb-true}
+use Rattle.wire.proofs.TestLaws.{both}
 use Rattle.tables.specs.declared.dictionary.Field.{Field}
-use Rattle.tables.specs.declared.dictionary.Field.the-variants.{
-  AggressorIndicator,
-  BrokerLocationId,
-  BusinessRejectCode,
-  BusinessRejectReferenceId,
-  ClearingInstruction,
-  ClientOrderId,
-  CopyMessageIndicator,
-  CounterpartyBrokerId,
-  CumulativeQuantity,
-  EndSequence,
-  ExecType,
-  ExecutionId,
-  ExecutionPrice,
-  ExecutionQuantity,
-  ExecRestatementReason,
-  ExchangeTradeType,
-  GapFill,
-  LeavesQuantity,
-  LogoutText,
-  LookupRejectCode,
-  LotType,
-  MatchType,
-  MaxPriceLevels,
-  MessageRejectCode,
-  NewPassword,
-  NewSequenceNumber,
-  NextExpectedMessageSequence,
-  OrderId,
-  OwningBrokerId,
-  OrderQuantity,
-  OrderStatus,
-  OrderType,
-  OrderRestrictions,
-  OrderCapacity,
-  OrderCategory,
-  OriginalClientOrderId,
-  Password,
-  PositionEffect,
-  Price,
-  ProtocolType,
-  PrimaryIp,
-  PrimaryPort,
-  ReferenceExecutionId,
-  ReferenceFieldName,
-  ReferenceMessageType,
-  ReferenceSequenceNumber,
-  ReferenceTestRequestId,
-  Reason,
-  SecurityExchange,
-  SecurityId,
-  SecurityIdSource,
-  SecondaryIp,
-  SecondaryPort,
-  SessionStatus,
-  Side,
-  SmpId,
-  StartSequence,
-  Status,
-  SubmittingBrokerId,
-  Text,
-  TimeInForce,
-  TestMessageIndicator,
-  TestRequestId,
-  TransactionTime,
-  TradeType,
-  TradeReportId,
-  TradeReportTransType,
-  TradeReportType,
-  TradeReportStatus,
-  TradeId,
-  TradeMatchId,
-  TradeHandlingInstructions,
-  TypeOfService,
-}
+use Rattle.tables.specs.declared.dictionary.Field.the-variants as field
 use Rattle.tables.specs.declared.table.Row.{Row}
 use Rattle.tables.specs.declared.table.Row.the-variants.{Required, Optional, UnknownPosition, UnknownType}
 use Rattle.tables.specs.Agree.{
@@ -108,161 +35,161 @@ use Rattle.tables.specs.Tables.{tablesOf, rowOf}
 -- the dictionary's fields, in its order
 abbrev fields : List Field
 fields =
-    AggressorIndicator ∷
-    BrokerLocationId ∷
-    BusinessRejectCode ∷
-    BusinessRejectReferenceId ∷
-    ClearingInstruction ∷
-    ClientOrderId ∷
-    CopyMessageIndicator ∷
-    CounterpartyBrokerId ∷
-    CumulativeQuantity ∷
-    EndSequence ∷
-    ExecType ∷
-    ExecutionId ∷
-    ExecutionPrice ∷
-    ExecutionQuantity ∷
-    ExecRestatementReason ∷
-    ExchangeTradeType ∷
-    GapFill ∷
-    LeavesQuantity ∷
-    LogoutText ∷
-    LookupRejectCode ∷
-    LotType ∷
-    MatchType ∷
-    MaxPriceLevels ∷
-    MessageRejectCode ∷
-    NewPassword ∷
-    NewSequenceNumber ∷
-    NextExpectedMessageSequence ∷
-    OrderId ∷
-    OwningBrokerId ∷
-    OrderQuantity ∷
-    OrderStatus ∷
-    OrderType ∷
-    OrderRestrictions ∷
-    OrderCapacity ∷
-    OrderCategory ∷
-    OriginalClientOrderId ∷
-    Password ∷
-    PositionEffect ∷
-    Price ∷
-    ProtocolType ∷
-    PrimaryIp ∷
-    PrimaryPort ∷
-    ReferenceExecutionId ∷
-    ReferenceFieldName ∷
-    ReferenceMessageType ∷
-    ReferenceSequenceNumber ∷
-    ReferenceTestRequestId ∷
-    Reason ∷
-    SecurityExchange ∷
-    SecurityId ∷
-    SecurityIdSource ∷
-    SecondaryIp ∷
-    SecondaryPort ∷
-    SessionStatus ∷
-    Side ∷
-    SmpId ∷
-    StartSequence ∷
-    Status ∷
-    SubmittingBrokerId ∷
-    Text ∷
-    TimeInForce ∷
-    TestMessageIndicator ∷
-    TestRequestId ∷
-    TransactionTime ∷
-    TradeType ∷
-    TradeReportId ∷
-    TradeReportTransType ∷
-    TradeReportType ∷
-    TradeReportStatus ∷
-    TradeId ∷
-    TradeMatchId ∷
-    TradeHandlingInstructions ∷
-    TypeOfService ∷
+    field.AggressorIndicator ∷
+    field.BrokerLocationId ∷
+    field.BusinessRejectCode ∷
+    field.BusinessRejectReferenceId ∷
+    field.ClearingInstruction ∷
+    field.ClientOrderId ∷
+    field.CopyMessageIndicator ∷
+    field.CounterpartyBrokerId ∷
+    field.CumulativeQuantity ∷
+    field.EndSequence ∷
+    field.ExecType ∷
+    field.ExecutionId ∷
+    field.ExecutionPrice ∷
+    field.ExecutionQuantity ∷
+    field.ExecRestatementReason ∷
+    field.ExchangeTradeType ∷
+    field.GapFill ∷
+    field.LeavesQuantity ∷
+    field.LogoutText ∷
+    field.LookupRejectCode ∷
+    field.LotType ∷
+    field.MatchType ∷
+    field.MaxPriceLevels ∷
+    field.MessageRejectCode ∷
+    field.NewPassword ∷
+    field.NewSequenceNumber ∷
+    field.NextExpectedMessageSequence ∷
+    field.OrderId ∷
+    field.OwningBrokerId ∷
+    field.OrderQuantity ∷
+    field.OrderStatus ∷
+    field.OrderType ∷
+    field.OrderRestrictions ∷
+    field.OrderCapacity ∷
+    field.OrderCategory ∷
+    field.OriginalClientOrderId ∷
+    field.Password ∷
+    field.PositionEffect ∷
+    field.Price ∷
+    field.ProtocolType ∷
+    field.PrimaryIp ∷
+    field.PrimaryPort ∷
+    field.ReferenceExecutionId ∷
+    field.ReferenceFieldName ∷
+    field.ReferenceMessageType ∷
+    field.ReferenceSequenceNumber ∷
+    field.ReferenceTestRequestId ∷
+    field.Reason ∷
+    field.SecurityExchange ∷
+    field.SecurityId ∷
+    field.SecurityIdSource ∷
+    field.SecondaryIp ∷
+    field.SecondaryPort ∷
+    field.SessionStatus ∷
+    field.Side ∷
+    field.SmpId ∷
+    field.StartSequence ∷
+    field.Status ∷
+    field.SubmittingBrokerId ∷
+    field.Text ∷
+    field.TimeInForce ∷
+    field.TestMessageIndicator ∷
+    field.TestRequestId ∷
+    field.TransactionTime ∷
+    field.TradeType ∷
+    field.TradeReportId ∷
+    field.TradeReportTransType ∷
+    field.TradeReportType ∷
+    field.TradeReportStatus ∷
+    field.TradeId ∷
+    field.TradeMatchId ∷
+    field.TradeHandlingInstructions ∷
+    field.TypeOfService ∷
     []
 
 -- a field's number is at least 1, and the field is found again by it
-by-number : (f : Field) → (1 ≤ rowNumber f) × (getD fields (rowNumber f - 1) AggressorIndicator ≡ f)
+by-number : (f : Field) → (1 ≤ rowNumber f) × (getD fields (rowNumber f - 1) field.AggressorIndicator ≡ f)
 unfolding entry rowNumber
-by-number AggressorIndicator = (omega arith, refl)
-by-number BrokerLocationId = (omega arith, refl)
-by-number BusinessRejectCode = (omega arith, refl)
-by-number BusinessRejectReferenceId = (omega arith, refl)
-by-number ClearingInstruction = (omega arith, refl)
-by-number ClientOrderId = (omega arith, refl)
-by-number CopyMessageIndicator = (omega arith, refl)
-by-number CounterpartyBrokerId = (omega arith, refl)
-by-number CumulativeQuantity = (omega arith, refl)
-by-number EndSequence = (omega arith, refl)
-by-number ExecType = (omega arith, refl)
-by-number ExecutionId = (omega arith, refl)
-by-number ExecutionPrice = (omega arith, refl)
-by-number ExecutionQuantity = (omega arith, refl)
-by-number ExecRestatementReason = (omega arith, refl)
-by-number ExchangeTradeType = (omega arith, refl)
-by-number GapFill = (omega arith, refl)
-by-number LeavesQuantity = (omega arith, refl)
-by-number LogoutText = (omega arith, refl)
-by-number LookupRejectCode = (omega arith, refl)
-by-number LotType = (omega arith, refl)
-by-number MatchType = (omega arith, refl)
-by-number MaxPriceLevels = (omega arith, refl)
-by-number MessageRejectCode = (omega arith, refl)
-by-number NewPassword = (omega arith, refl)
-by-number NewSequenceNumber = (omega arith, refl)
-by-number NextExpectedMessageSequence = (omega arith, refl)
-by-number OrderId = (omega arith, refl)
-by-number OwningBrokerId = (omega arith, refl)
-by-number OrderQuantity = (omega arith, refl)
-by-number OrderStatus = (omega arith, refl)
-by-number OrderType = (omega arith, refl)
-by-number OrderRestrictions = (omega arith, refl)
-by-number OrderCapacity = (omega arith, refl)
-by-number OrderCategory = (omega arith, refl)
-by-number OriginalClientOrderId = (omega arith, refl)
-by-number Password = (omega arith, refl)
-by-number PositionEffect = (omega arith, refl)
-by-number Price = (omega arith, refl)
-by-number ProtocolType = (omega arith, refl)
-by-number PrimaryIp = (omega arith, refl)
-by-number PrimaryPort = (omega arith, refl)
-by-number ReferenceExecutionId = (omega arith, refl)
-by-number ReferenceFieldName = (omega arith, refl)
-by-number ReferenceMessageType = (omega arith, refl)
-by-number ReferenceSequenceNumber = (omega arith, refl)
-by-number ReferenceTestRequestId = (omega arith, refl)
-by-number Reason = (omega arith, refl)
-by-number SecurityExchange = (omega arith, refl)
-by-number SecurityId = (omega arith, refl)
-by-number SecurityIdSource = (omega arith, refl)
-by-number SecondaryIp = (omega arith, refl)
-by-number SecondaryPort = (omega arith, refl)
-by-number SessionStatus = (omega arith, refl)
-by-number Side = (omega arith, refl)
-by-number SmpId = (omega arith, refl)
-by-number StartSequence = (omega arith, refl)
-by-number Status = (omega arith, refl)
-by-number SubmittingBrokerId = (omega arith, refl)
-by-number Text = (omega arith, refl)
-by-number TimeInForce = (omega arith, refl)
-by-number TestMessageIndicator = (omega arith, refl)
-by-number TestRequestId = (omega arith, refl)
-by-number TransactionTime = (omega arith, refl)
-by-number TradeType = (omega arith, refl)
-by-number TradeReportId = (omega arith, refl)
-by-number TradeReportTransType = (omega arith, refl)
-by-number TradeReportType = (omega arith, refl)
-by-number TradeReportStatus = (omega arith, refl)
-by-number TradeId = (omega arith, refl)
-by-number TradeMatchId = (omega arith, refl)
-by-number TradeHandlingInstructions = (omega arith, refl)
-by-number TypeOfService = (omega arith, refl)
+by-number field.AggressorIndicator = (omega arith, refl)
+by-number field.BrokerLocationId = (omega arith, refl)
+by-number field.BusinessRejectCode = (omega arith, refl)
+by-number field.BusinessRejectReferenceId = (omega arith, refl)
+by-number field.ClearingInstruction = (omega arith, refl)
+by-number field.ClientOrderId = (omega arith, refl)
+by-number field.CopyMessageIndicator = (omega arith, refl)
+by-number field.CounterpartyBrokerId = (omega arith, refl)
+by-number field.CumulativeQuantity = (omega arith, refl)
+by-number field.EndSequence = (omega arith, refl)
+by-number field.ExecType = (omega arith, refl)
+by-number field.ExecutionId = (omega arith, refl)
+by-number field.ExecutionPrice = (omega arith, refl)
+by-number field.ExecutionQuantity = (omega arith, refl)
+by-number field.ExecRestatementReason = (omega arith, refl)
+by-number field.ExchangeTradeType = (omega arith, refl)
+by-number field.GapFill = (omega arith, refl)
+by-number field.LeavesQuantity = (omega arith, refl)
+by-number field.LogoutText = (omega arith, refl)
+by-number field.LookupRejectCode = (omega arith, refl)
+by-number field.LotType = (omega arith, refl)
+by-number field.MatchType = (omega arith, refl)
+by-number field.MaxPriceLevels = (omega arith, refl)
+by-number field.MessageRejectCode = (omega arith, refl)
+by-number field.NewPassword = (omega arith, refl)
+by-number field.NewSequenceNumber = (omega arith, refl)
+by-number field.NextExpectedMessageSequence = (omega arith, refl)
+by-number field.OrderId = (omega arith, refl)
+by-number field.OwningBrokerId = (omega arith, refl)
+by-number field.OrderQuantity = (omega arith, refl)
+by-number field.OrderStatus = (omega arith, refl)
+by-number field.OrderType = (omega arith, refl)
+by-number field.OrderRestrictions = (omega arith, refl)
+by-number field.OrderCapacity = (omega arith, refl)
+by-number field.OrderCategory = (omega arith, refl)
+by-number field.OriginalClientOrderId = (omega arith, refl)
+by-number field.Password = (omega arith, refl)
+by-number field.PositionEffect = (omega arith, refl)
+by-number field.Price = (omega arith, refl)
+by-number field.ProtocolType = (omega arith, refl)
+by-number field.PrimaryIp = (omega arith, refl)
+by-number field.PrimaryPort = (omega arith, refl)
+by-number field.ReferenceExecutionId = (omega arith, refl)
+by-number field.ReferenceFieldName = (omega arith, refl)
+by-number field.ReferenceMessageType = (omega arith, refl)
+by-number field.ReferenceSequenceNumber = (omega arith, refl)
+by-number field.ReferenceTestRequestId = (omega arith, refl)
+by-number field.Reason = (omega arith, refl)
+by-number field.SecurityExchange = (omega arith, refl)
+by-number field.SecurityId = (omega arith, refl)
+by-number field.SecurityIdSource = (omega arith, refl)
+by-number field.SecondaryIp = (omega arith, refl)
+by-number field.SecondaryPort = (omega arith, refl)
+by-number field.SessionStatus = (omega arith, refl)
+by-number field.Side = (omega arith, refl)
+by-number field.SmpId = (omega arith, refl)
+by-number field.StartSequence = (omega arith, refl)
+by-number field.Status = (omega arith, refl)
+by-number field.SubmittingBrokerId = (omega arith, refl)
+by-number field.Text = (omega arith, refl)
+by-number field.TimeInForce = (omega arith, refl)
+by-number field.TestMessageIndicator = (omega arith, refl)
+by-number field.TestRequestId = (omega arith, refl)
+by-number field.TransactionTime = (omega arith, refl)
+by-number field.TradeType = (omega arith, refl)
+by-number field.TradeReportId = (omega arith, refl)
+by-number field.TradeReportTransType = (omega arith, refl)
+by-number field.TradeReportType = (omega arith, refl)
+by-number field.TradeReportStatus = (omega arith, refl)
+by-number field.TradeId = (omega arith, refl)
+by-number field.TradeMatchId = (omega arith, refl)
+by-number field.TradeHandlingInstructions = (omega arith, refl)
+by-number field.TypeOfService = (omega arith, refl)
 
 -- so that no two fields have one number, and none has 0
 pub one-number : (f g : Field) → rowNumber f ≡ rowNumber g → f ≡ g
-one-number f g e = sym (by-number f .1) ∙ ap (λ (n : ℕ). getD fields (n - 1) AggressorIndicator) e ∙ by-number g .1
+one-number f g e = sym (by-number f .1) ∙ ap (λ (n : ℕ). getD fields (n - 1) field.AggressorIndicator) e ∙ by-number g .1
 
 no-zero : (f : Field) → rowNumber f ≡ 0 → ⊥
 no-zero f e = omega (arith, by-number f .0)
@@ -293,10 +220,6 @@ named-number : {r : Row} {f : Field} → Names r f → fieldNumber r ≡ rowNumb
 unfolding fieldNumber
 named-number names-required = refl
 named-number names-optional = refl
-
-both : (x y : Bool) → cond x y false ≡ true → (x ≡ true) × (y ≡ true)
-both true y e = (refl, e)
-both false y e = let z : _≡_ {A = ℕ} 0 1 = cc in absurd (omega arith)
 
 nothing-named : {A : Type 0} {f : Field} → (r : Row) → fieldNumber r ≡ 0 → Names r f → A
 nothing-named {A} {f} r e n = absurd (no-zero f (sym (named-number n) ∙ e))

@@ -7,6 +7,7 @@ use native.Mathlib.Omega.{arith}
 use lib.Dec.{eqb, leb, ltb}
 use lib.ListN.{length}
 use borrow.Author.Tests.{eqb-true, eqb-false, ne-eqb, ltb-true, ltb-false}
+use Rattle.wire.proofs.TestLaws.{both}
 use Rattle.tables.specs.declared.dictionary.Field.{Field}
 use Rattle.tables.specs.declared.table.Row.{Row}
 use Rattle.tables.specs.declared.table.Row.the-variants.{Required, Optional, UnknownPosition, UnknownType}
@@ -35,10 +36,6 @@ allBelow (suc n) f = cond (f n) (allBelow n f) false
 abbrev sameBool : Bool → Bool → Bool
 sameBool true b = b
 sameBool false b = not b
-
-both : (x y : Bool) → cond x y false ≡ true → (x ≡ true) × (y ≡ true)
-both true y e = (refl, e)
-both false y e = absurd (true≢false (sym e))
 
 all-below : (n : ℕ) (f : ℕ → Bool) → allBelow n f ≡ true → (p : ℕ) → p < n → f p ≡ true
 all-below zero f e p h = absurd (omega arith)

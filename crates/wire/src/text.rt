@@ -80,7 +80,7 @@ fn null_in(s: &[u8]) -> Null
 }
 
 // The fixed text of this width at the front of s.
-pub fn fixed_text(s: &[u8], width: usize) -> Text
+pub fn fixed_text(width: usize, s: &[u8]) -> Text
     ensures { λ r. ⌜ r ≡ fixedText width (now (s .entry)) ⌝ }
 {
     if s.len() < width {
@@ -96,7 +96,7 @@ pub fn fixed_text(s: &[u8], width: usize) -> Text
 }
 
 // The variable text at the front of s: its length in two bytes, from 1 to `size`, and so many bytes after them.
-pub fn variable_text(s: &[u8], size: usize) -> Text
+pub fn variable_text(size: usize, s: &[u8]) -> Text
     ensures { λ r. ⌜ r ≡ variableText size (now (s .entry)) ⌝ }
 {
     if s.len() < 2 {
@@ -120,10 +120,10 @@ pub fn variable_text(s: &[u8], size: usize) -> Text
 }
 
 // The characters of a fixed text, a part of the caller's bytes; empty where the text is bad.
-pub fn fixed_part(s: &[u8], width: usize) -> &[u8]
+pub fn fixed_part(width: usize, s: &[u8]) -> &[u8]
     ensures { λ r. ⌜ now r ≡ fixedPart width (now (s .entry)) ⌝ }
 {
-    match fixed_text(s, width) {
+    match fixed_text(width, s) {
         Text::Good {
             characters,
             taken: _,
@@ -133,10 +133,10 @@ pub fn fixed_part(s: &[u8], width: usize) -> &[u8]
 }
 
 // The characters of a variable text, a part of the caller's bytes; empty where the text is bad.
-pub fn variable_part(s: &[u8], size: usize) -> &[u8]
+pub fn variable_part(size: usize, s: &[u8]) -> &[u8]
     ensures { λ r. ⌜ now r ≡ variablePart size (now (s .entry)) ⌝ }
 {
-    match variable_text(s, size) {
+    match variable_text(size, s) {
         Text::Good {
             characters,
             taken: _,
@@ -208,7 +208,7 @@ pub fn put_fixed(d: &mut [u8], width: usize, t: &[u8]) -> Laid
 pub fn copy_fixed(d: &mut [u8], width: usize, s: &[u8]) -> Laid
     ensures { λ r. ⌜ Lays (fixedBytes width (fixedPart width (now (s .entry)))) (now (d .entry)) r (now (d .exit)) ⌝ }
 {
-    lay_fixed(d, width, fixed_part(s, width))
+    lay_fixed(d, width, fixed_part(width, s))
 }
 
 // The length of the characters, the null counted, the characters and the null, at the front of a lent buffer.
@@ -241,5 +241,5 @@ pub fn put_variable(d: &mut [u8], size: usize, t: &[u8]) -> Laid
 pub fn copy_variable(d: &mut [u8], size: usize, s: &[u8]) -> Laid
     ensures { λ r. ⌜ Lays (variableBytes (variablePart size (now (s .entry)))) (now (d .entry)) r (now (d .exit)) ⌝ }
 {
-    lay_variable(d, variable_part(s, size))
+    lay_variable(d, variable_part(size, s))
 }

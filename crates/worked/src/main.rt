@@ -33,6 +33,7 @@ use session::state::State;
 use session::state::Stepped;
 use tables::dictionary::Field;
 use wire::decimal::put_decimal;
+use wire::map::MAP_BYTES;
 use wire::number::read_u64;
 use writer::write::Written;
 use writer::write::write;
@@ -226,8 +227,8 @@ fn say_hex(s: &[u8]) {
 }
 
 // The first thirty-two bytes of s, with zeros for those that are not there.
-fn map_bytes(s: &[u8]) -> [u8; 32] {
-    let mut m = [0u8; 32];
+fn map_bytes(s: &[u8]) -> [u8; MAP_BYTES] {
+    let mut m = [0u8; MAP_BYTES];
     let mut i: usize = 0;
     while i < 32 {
         if s.len() <= i {

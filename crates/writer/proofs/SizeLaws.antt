@@ -35,7 +35,7 @@ use Rattle.fields.specs.Walk.{onward, walkThrough, walkOf}
 use Rattle.fields.proofs.PositionLaws.{later-skip, later-end, positions-split}
 use Rattle.fields.proofs.WalkLaws.{walkFrom, walk-on}
 use Rattle.message.specs.declared.vet.Vetted.the-variants as vetted
-use Rattle.message.specs.Vet.{goodCompId, goodHeader, vetFields, vetUnknown, vetMissing, vetWalk, vet}
+use Rattle.message.specs.Vet.{goodCompId, goodHeader, vetFields, vetSets, vetPlace, vetWalk, vet}
 use Rattle.writer.specs.declared.write.Written.the-variants.{Wrote}
 use Rattle.writer.specs.Send.{Outgoing, logout, heartbeat, heartbeatFor, testRequest, resendRequest, gapFill, logon, logonOf, sendOf, mapWith}
 use Rattle.writer.specs.Write.{writeOf, writeVetted, writeLength}
@@ -78,7 +78,7 @@ pub record Complete (x : Outgoing) (b plain : ℕ) : Type 0 where
 
 module _ {x : Outgoing} {b plain : ℕ} (c : Complete x b plain) where
   complete-fields : vetFields (rowOf (x .head .messagetype)) (x .map) (x .body) ≡ vetted.Good plain
-  unfolding vetFields vetUnknown vetMissing vetWalk walkOf walkFrom cut
+  unfolding vetFields vetSets vetPlace vetWalk walkOf walkFrom cut
   complete-fields = rw (c .map, c .known, c .filled, first-byte b, c .walked)
 
   -- with a number, a good Comp ID and room it is written

@@ -17,6 +17,7 @@ use message::frame::MAP_AT;
 use message::frame::NUMBER_AT;
 use message::frame::POSS_DUP_AT;
 use message::frame::POSS_RESEND_AT;
+use message::frame::START_AT;
 use message::frame::STX;
 use message::frame::SUM_BYTES;
 use message::frame::TYPE_AT;
@@ -38,14 +39,15 @@ ghost use Rattle.wire.specs.Text.{takes};
 ghost use Rattle.fields.specs.Cut.{headPositions};
 ghost use Rattle.fields.specs.Plain.{plainFields};
 ghost use Rattle.fields.specs.Words.{ClearFrom};
-ghost use Rattle.message.specs.Frame.{compIdAt, bodyAt, compIdBytes, sumBytes};
+ghost use Rattle.message.specs.Frame.{compIdAt, bodyAt, compIdBytes, sumBytes, frameBytes};
 ghost use Rattle.writer.specs.Plain.{headBytes, sealed};
 ghost use Rattle.writer.specs.Put.{valueBytes};
 
 // All fields of a body, each in plain form behind the last, where there is room for them and no position behind the map's head is set. The
 // positions still to come are a word, and the body's bytes from the next field on are `rest`.
 pub(crate) fn put_fields(d: &mut [u8], messagetype: u8, map: &[u8], body: &[u8])
-    requires { ⌜ (8 ≤ length (now map)) × ClearFrom headPositions (now map) × (length (plainFields (rowOf messagetype) (now map) (now body)) ≤ length (now d)) ⌝ }
+    requires { ⌜ (8 ≤ length (now map)) × ClearFrom headPositions (now map) ⌝ }
+    requires { ⌜ length (plainFields (rowOf messagetype) (now map) (now body)) ≤ length (now d) ⌝ }
     ensures { λ _. ⌜ now (d .exit) ≡ laid (plainFields (rowOf messagetype) (now (map .entry)) (now (body .entry))) (now (d .entry)) ⌝ }
 {
     let mut at: usize = 0;
@@ -119,10 +121,10 @@ pub(crate) fn put_head(d: &mut [u8], n: u16, header: Header, comp: &[u8], map: &
 
 // The checksum over a message's bytes before it, behind them.
 pub(crate) fn put_sum(d: &mut [u8], n: usize)
-    requires { ⌜ (sumBytes ≤ n) × (n ≤ length (now d)) ⌝ }
+    requires { ⌜ (frameBytes ≤ n) × (n ≤ length (now d)) ⌝ }
     ensures { λ _. ⌜ now (d .exit) ≡ laid (sealed (take (n - sumBytes) (now (d .entry)))) (now (d .entry)) ⌝ }
 {
     let end = n - SUM_BYTES;
-    let sum = crc32c(&d[..end]);
+    let sum = crc32c(&d[START_AT..end]);
     put_u32(&mut d[end..], sum);
 }

@@ -10,8 +10,8 @@ use Rattle.session.specs.declared.state.Stepped.{Stepped}
 use Rattle.calls.specs.declared.Ended.the-variants.{Short}
 use Rattle.calls.specs.declared.Next.the-variants.{Ends}
 use Rattle.session.specs.Day.{step}
-use Rattle.session.specs.State.{codeNumber}
-use Rattle.calls.specs.Steps.{did, nextOf, stepDone, fits, neededBy}
+use Rattle.session.specs.State.{codeNumber, codeBesides}
+use Rattle.calls.specs.Steps.{did, nextOf, stepDone, fits}
 use Rattle.calls.proofs.CourseLaws.{Fits, fits-true, fits-by, row-room, short-turn, full-turn, done-turn}
 use Rattle.calls.proofs.TurnedLaws.{read-step, turns-nothing, turns-done}
 use borrow.Author.Needs.{needs}
@@ -24,8 +24,8 @@ step-by-requires c κs = search needs
 number-requires : tie.Need-number-requires
 number-requires c κs = search needs
 
-needed-by-requires : tie.Need-needed-by-requires
-needed-by-requires c κs = search needs
+besides-requires : tie.Need-besides-requires
+besides-requires c κs = search needs
 
 ends-requires : tie.Need-ends-requires
 ends-requires c κs = search needs
@@ -39,7 +39,7 @@ returns c =
     let r = length (a .args .rows .now) in
     let q = length (a .args .sends .now) in
     let e = read-step (a .args .session) s (a .args .reading) _ (a .pre .0) (n .step-by .ensures) in
-    let w = ap (λ (m : ℕ). did (a .args .session) (Ends (Short m))) (ap neededBy (sym (a .pre .0)) ∙ sym (c .before .needed-by .ensures)) in
+    let w = ap (λ (m : ℕ). did (a .args .session) (Ends (Short m))) (ap (λ (x : Stepped). codeBesides (x .answer .code)) (sym e) ∙ sym (c .before .besides .ensures)) in
     let u = short-turn (a .args .at) r q (a .args .session) s (ap (λ (x : Stepped). codeNumber (x .answer .code)) (sym e) ∙ sym (k .before .number .ensures) ∙ k .if1 .taken) in
     let t = turns-nothing _ (a .args .session) _ (c .ends .result) (a .args .rows .now) (a .args .sends .now) (u ∙ w) (c .ends .ensures) in
     (t .answer, t .rows, t .sends)
@@ -130,7 +130,7 @@ turn-spec =
     (tie.spec
     step-by-requires
     number-requires
-    needed-by-requires
+    besides-requires
     ends-requires
     returns
     is-fitting-requires

@@ -17,15 +17,15 @@ abbrev μ-loop : tie.MeasureT-loop
 μ-loop buf₀ from end n i₀ buf i = n - i
 
 returns : tie.Need-returns Inv-loop μ-loop
-returns c a b = absurd (omega arith)
+returns c = (λ a b. absurd (omega arith), λ a b. absurd (omega arith))
 
 returns-2 : tie.Need-returns-2 Inv-loop μ-loop
-returns-2 c a b = absurd (omega arith)
+returns-2 c = (λ a b. absurd (omega arith), λ a b. absurd (omega arith))
 
 returns-3 : tie.Need-returns-3 Inv-loop μ-loop
-returns-3 c a b =
+returns-3 c =
     let r = c .before .before .before .args in
-    (refl, ap (λ (k : ℕ). take (r .end - r .from) (drop k (r .buf .now))) (sym (c .if3 .taken)))
+    (λ a b. refl, λ a b. ap (λ (k : ℕ). take (r .end - r .from) (drop k (r .buf .now))) (sym (c .if3 .taken)))
 
 loop-holds : tie.Need-loop-holds Inv-loop μ-loop
 loop-holds c = (omega arith, refl, refl, refl)
@@ -63,11 +63,11 @@ same-length : tie.Need-same-length Inv-loop μ-loop
 same-length c = search needs
 
 returns-4 : tie.Need-returns-4 Inv-loop μ-loop
-returns-4 c p q =
+returns-4 c =
     let l = c .before in
     let a = l .before .before .before .before .args in
     let e : l .loop .i ≡ a .end - a .from = omega arith in
-    (refl, ap (λ (k : ℕ). take k (l .loop .buf)) (sym e) ∙ l .loop .inv .3 ∙ ap (λ (k : ℕ). take k (drop (a .from) (a .buf .now))) e)
+    (λ p q. refl, λ p q. ap (λ (k : ℕ). take k (l .loop .buf)) (sym e) ∙ l .loop .inv .3 ∙ ap (λ (k : ℕ). take k (drop (a .from) (a .buf .now))) e)
 
 pub to-front-spec : {M : Type 1} → statement M
 to-front-spec =

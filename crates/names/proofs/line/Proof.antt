@@ -5,8 +5,8 @@ use native.Mathlib.Omega.{arith}
 use lib.ListN.{length, take, length-take, length-drop}
 use lib.Seq.{length-take-le}
 use borrow.Author.Needs.{needs}
-use Rattle.names.specs.Lines.{lineLength, lineOf}
-use Rattle.names.proofs.LineLaws.{line-within, last-line, next-line}
+use Rattle.names.specs.Lines.{lineOf}
+use Rattle.names.proofs.LineLaws.{last-line, next-line}
 use Rattle.names.proofs.line.Statement.{statement}
 use Rattle.names.proofs.line.Tie as tie
 
@@ -29,16 +29,16 @@ returns : tie.Need-returns Inv-loop μ-loop
 returns c =
     let l = c .before .before .before .before in
     last-line (l .loop .left) (l .loop .rest .now) (c .before .before .before .loop-test .taken)
-    (sym (c .before .before .line-length .ensures) ∙ c .before .if1 .taken) ∙ l .loop .inv .1
+    (sym (c .before .before .line-length .ensures .0) ∙ c .before .if1 .taken) ∙ l .loop .inv .1
 
 add-next : tie.Need-add-next Inv-loop μ-loop
-add-next c = let r = c .before .before .before .loop .rest .now in omega (arith, line-within r, c .if1 .left)
+add-next c = omega (arith, c .before .line-length .ensures .1, c .if1 .left)
 
 sub-rest : tie.Need-sub-rest Inv-loop μ-loop
-sub-rest c = let r = c .before .before .before .loop .rest .now in omega (arith, line-within r, c .if1 .left)
+sub-rest c = omega (arith, c .before .line-length .ensures .1, c .if1 .left)
 
 part-rest-start : tie.Need-part-rest-start Inv-loop μ-loop
-part-rest-start c = let r = c .before .before .before .loop .rest .now in omega (arith, line-within r, c .if1 .left)
+part-rest-start c = omega (arith, c .before .line-length .ensures .1, c .if1 .left)
 
 part-rest-end : tie.Need-part-rest-end Inv-loop μ-loop
 part-rest-end c = search needs
@@ -55,7 +55,7 @@ loop-again c =
     let k = c .before .before .line-length .result in
     let r = l .loop .rest .now in (
       simp (length-take, length-drop) (omega arith),
-      next-line (l .loop .left) k r (c .before .before .before .loop-test .taken) (c .before .before .line-length .ensures) ∙ l .loop .inv .1,
+      next-line (l .loop .left) k r (c .before .before .before .loop-test .taken) (c .before .before .line-length .ensures .0) ∙ l .loop .inv .1,
     )
 
 line-length-requires-2 : tie.Need-line-length-requires-2 Inv-loop μ-loop
@@ -66,8 +66,7 @@ slice-aggregate-result-2 c =
     let l = c .before .before .before in
     let n = c .before .line-length2 .result in
     let r = l .loop .rest .now in
-    let e : n ≡ lineLength r = c .before .line-length2 .ensures in
-    sym (length-take-le n r (omega (arith, line-within r)))
+    sym (length-take-le n r (c .before .line-length2 .ensures .1))
 
 returns-2 : tie.Need-returns-2 Inv-loop μ-loop
 unfolding lineOf
@@ -75,7 +74,7 @@ returns-2 c =
     let l = c .before .before .before in
     let r = l .loop .rest .now in
     let z : l .loop .left ≡ 0 = omega arith in
-    ap (λ (n : ℕ). take n r) (c .before .line-length2 .ensures) ∙ ap (λ (n : ℕ). lineOf n r) (sym z) ∙ l .loop .inv .1
+    ap (λ (n : ℕ). take n r) (c .before .line-length2 .ensures .0) ∙ ap (λ (n : ℕ). lineOf n r) (sym z) ∙ l .loop .inv .1
 
 pub line-spec : {M : Type 1} → statement M
 line-spec =

@@ -6,7 +6,8 @@ use borrow.Author.Needs.{needs}
 use Rattle.wire.specs.Laying.{laid, laidAnswer}
 use Rattle.names.specs.Lines.{lineOf}
 use Rattle.wire.specs.Spelled.{spelled}
-use Rattle.names.specs.Names.{nameOf}
+use Rattle.tables.specs.Dictionary.{entry}
+use Rattle.names.specs.Names.{utf8, nameOf}
 use Rattle.names.proofs.NameLaws.{lines, text, name-stands}
 use Rattle.names.proofs.put_name.Statement.{statement}
 use Rattle.names.proofs.put_name.Tie as tie
@@ -24,7 +25,7 @@ same-length : tie.Need-same-length
 same-length c = search needs
 
 returns : tie.Need-returns
-unfolding spelled nameOf lines text
+unfolding spelled utf8 nameOf entry lines text
 returns c =
     let p = c .before .before in
     let l = p .before in

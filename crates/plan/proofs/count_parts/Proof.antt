@@ -30,7 +30,7 @@ loop-less c = search needs
 loop-again : tie.Need-loop-again Inv-loop μ-loop
 loop-again c =
     let l = c .before .before in
-    (omega arith, omega arith, omega (arith, l .loop .inv .2, ap length (c .part-at .ensures .2)))
+    (omega arith, omega arith, omega (arith, l .loop .inv .2, ap length (c .part-at .ensures .1)))
 
 returns : tie.Need-returns Inv-loop μ-loop
 returns c =

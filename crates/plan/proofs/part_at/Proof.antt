@@ -12,7 +12,7 @@ add-t7 : tie.Need-add-t7
 add-t7 c = search needs
 
 returns : tie.Need-returns
-returns c = let a = c .before .before .before .args in (omega arith, omega arith, business-part (a .list .now) (a .i) (omega arith) (c .if1 .taken))
+returns c = let a = c .before .before .before .args in ((omega arith, omega arith), business-part (a .list .now) (a .i) (omega arith) (c .if1 .taken))
 
 run-end-requires : tie.Need-run-end-requires
 run-end-requires c κs = search needs

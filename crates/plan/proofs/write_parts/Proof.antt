@@ -24,7 +24,7 @@ room : (c : tie.After-part-at Inv-loop μ-loop) → c .before .before .loop .at 
 room c =
     let l = c .before .before in
     let s = l .before .before .before in
-    written-room (all s) _ _ _ (s .args .d .now) (l .loop .d) (l .loop .at) (s .pre .2) (c .part-at .ensures .2) (l .loop .inv .1)
+    written-room (all s) _ _ _ (s .args .d .now) (l .loop .d) (l .loop .at) (s .pre .2) (c .part-at .ensures .1) (l .loop .inv .1)
 
 loop-holds : tie.Need-loop-holds Inv-loop μ-loop
 loop-holds c = let a = c .before .before .args in (c .before .before .pre .0, written-none (partsFrom (a .start + 1) (drop (a .start) (a .list .now))) (a .d .now))
@@ -65,9 +65,9 @@ loop-again c =
     let s = l .before .before .before in
     let a = s .args in
     let next = c .part-at .result .next in (
-      c .part-at .ensures .1,
+      c .part-at .ensures .0 .1,
       written-part (all s) (partsFrom (next + 1) (drop next (a .list .now))) (gapFill (l .loop .i + 1) (c .part-at .result .new)) (a .d .now) (l .loop .d) (l .loop .at) (s .pre .2)
-          (subst (λ (r : List Part). Written (all s) r (a .d .now) (l .loop .d) (l .loop .at)) (c .part-at .ensures .2) (l .loop .inv .1)),
+          (subst (λ (r : List Part). Written (all s) r (a .d .now) (l .loop .d) (l .loop .at)) (c .part-at .ensures .1) (l .loop .inv .1)),
     )
 
 same-length : tie.Need-same-length Inv-loop μ-loop

@@ -1,5 +1,5 @@
 -- `capi::sessions::ended_besides` meets its contract.
-use Rattle.capi.specs.Steps.{endedBesides}
+use Rattle.capi.specs.Steps.{endedIn}
 use borrow.Author.Needs.{needs}
 use Rattle.capi.proofs.sessions.ended_besides.Statement.{statement}
 use Rattle.capi.proofs.sessions.ended_besides.Tie as tie
@@ -17,15 +17,15 @@ enum-told : tie.Need-enum-told
 enum-told c = search needs
 
 returns : tie.Need-returns
-unfolding endedBesides
+unfolding endedIn
 returns c = search needs
 
 returns-2 : tie.Need-returns-2
-unfolding endedBesides
+unfolding endedIn
 returns-2 c = simp (c .besides .ensures, c .before .before .ended2 .given .1)
 
 returns-3 : tie.Need-returns-3
-unfolding endedBesides
+unfolding endedIn
 returns-3 c = search needs
 
 pub ended-besides-spec : {M : Type 1} → statement M

@@ -1,5 +1,5 @@
 -- `capi::sessions::ended_code` meets its contract.
-use Rattle.capi.specs.Steps.{endedCode}
+use Rattle.capi.specs.Steps.{endedIn}
 use borrow.Author.Needs.{needs}
 use Rattle.capi.proofs.sessions.ended_code.Statement.{statement}
 use Rattle.capi.proofs.sessions.ended_code.Tie as tie
@@ -17,15 +17,15 @@ enum-told-2 : tie.Need-enum-told-2
 enum-told-2 c = search needs
 
 returns : tie.Need-returns
-unfolding endedCode
+unfolding endedIn
 returns c = search needs
 
 returns-2 : tie.Need-returns-2
-unfolding endedCode
+unfolding endedIn
 returns-2 c = simp (c .number .ensures, c .before .before .ended .given .1)
 
 returns-3 : tie.Need-returns-3
-unfolding endedCode
+unfolding endedIn
 returns-3 c = search needs
 
 pub ended-code-spec : {M : Type 1} → statement M

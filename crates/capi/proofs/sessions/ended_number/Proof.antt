@@ -1,5 +1,5 @@
 -- `capi::sessions::ended_number` meets its contract.
-use Rattle.capi.specs.Steps.{endedNumber}
+use Rattle.capi.specs.Steps.{endedIn}
 use borrow.Author.Needs.{needs}
 use Rattle.capi.proofs.sessions.ended_number.Statement.{statement}
 use Rattle.capi.proofs.sessions.ended_number.Tie as tie
@@ -14,15 +14,15 @@ enum-told-3 : tie.Need-enum-told-3
 enum-told-3 c = search needs
 
 returns : tie.Need-returns
-unfolding endedNumber
+unfolding endedIn
 returns c = search needs
 
 returns-2 : tie.Need-returns-2
-unfolding endedNumber
+unfolding endedIn
 returns-2 c = search needs
 
 returns-3 : tie.Need-returns-3
-unfolding endedNumber
+unfolding endedIn
 returns-3 c = search needs
 
 pub ended-number-spec : {M : Type 1} → statement M

@@ -22,7 +22,7 @@ number-in-requires : tie.Need-number-in-requires
 number-in-requires c κs =
     let z = c .before .before .before .before .before .before .before .before in
     let a = z .args in
-    let good = z .pre .3 in
+    let good = z .pre .1 .1 in
     quick-number-room (a .messagetype) (a .p) (a .whole) (a .s .now) good _ (sym (c .before .before .before .before .shape-at .ensures) ∙ c .before .before .width .given .1)
 
 lay-five-requires : tie.Need-lay-five-requires
@@ -44,7 +44,7 @@ slice-aggregate-characters-in : tie.Need-slice-aggregate-characters-in
 slice-aggregate-characters-in c =
     let z = c .before .before .before .before .before .before .before .before .before in
     let a = z .args in
-    let good = z .pre .3 in
+    let good = z .pre .1 .1 in
     sym (length-take-le _ (a .s .now) (quick-fixed-room (a .messagetype) (a .p) (a .whole) (a .s .now) good _ (sym (c .before .before .before .before .before .shape-at .ensures) ∙ c .before .before .before .width2 .given .1)))
 
 characters-in-requires : tie.Need-characters-in-requires
@@ -66,7 +66,7 @@ returns : tie.Need-returns
 returns c =
     let z = c .before .before .before .before .before .before .before .before .before .before .before .before in
     let a = z .args in
-    let good = z .pre .3 in
+    let good = z .pre .1 .1 in
     quick-number (a .messagetype) (a .p) (a .whole) (a .s .now) good _ (sym (c .before .before .before .before .before .before .before .before .shape-at .ensures) ∙ c .before .before .before .before .before .before .width .given .1) _ (a .d .now) _ (c .before .before .before .number-in .ensures) (c .before .before .lay-five .ensures)
 
 same-length-2 : tie.Need-same-length-2
@@ -76,7 +76,7 @@ returns-2 : tie.Need-returns-2
 returns-2 c =
     let z = c .before .before .before .before .before .before .before .before .before .before .before in
     let a = z .args in
-    let good = z .pre .3 in
+    let good = z .pre .1 .1 in
     quick-decimal (a .messagetype) (a .p) (a .whole) (a .s .now) good (sym (c .before .before .before .before .before .before .before .shape-at .ensures) ∙ c .before .before .before .before .before .enum-told .given .1) _ (a .d .now) _ (λ i. c .before .before .before .before .before .before .before .before .shared-slice-known2 .given i .fits) (c .before .before .before .read-eight .ensures) (c .before .before .lay-five2 .ensures)
 
 same-length-3 : tie.Need-same-length-3
@@ -86,7 +86,7 @@ returns-3 : tie.Need-returns-3
 returns-3 c =
     let z = c .before .before .before .before .before .before .before .before .before .before .before .before .before in
     let a = z .args in
-    let good = z .pre .3 in
+    let good = z .pre .1 .1 in
     quick-fixed (a .messagetype) (a .p) (a .whole) (a .s .now) good _ (sym (c .before .before .before .before .before .before .before .before .before .shape-at .ensures) ∙ c .before .before .before .before .before .before .before .width2 .given .1) _ (a .d .now) _ (c .before .before .before .characters-in .ensures) (c .before .before .lay-five3 .ensures)
 
 same-length-4 : tie.Need-same-length-4

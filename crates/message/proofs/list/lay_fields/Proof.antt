@@ -63,7 +63,7 @@ lay-field-requires c κs =
     let h = t .loop-test .taken in
     let z = c .before .before .before .before .before .before .before .before in
     let x = entered _ _ _ _ _ (c .before .before .before .before .before .map-in .ensures) (c .before .before .before .before .body-in .ensures) (z .pre .0) in
-    (listing-part (l .inv) h, listing-set (l .inv) h, omega (arith, x .body-size, l .inv .within), listing-good (l .inv) h)
+    ((listing-part (l .inv) h, listing-set (l .inv) h), (omega (arith, x .body-size, l .inv .within), listing-good (l .inv) h))
 
 add-laid : tie.Need-add-laid Inv-loop μ-loop
 add-laid c = omega (arith, listing-fits (c .before .before .before .before .before .loop .inv) (c .before .before .before .before .loop-test .taken), c .before .before .before .before .before .before .before .before .before .before .before .good .0)

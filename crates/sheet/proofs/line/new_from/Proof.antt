@@ -2,7 +2,8 @@
 use mathlib.Core.Path.{sym, ap, _∙_}
 use borrow.Author.Needs.{needs}
 use Rattle.sheet.specs.Line.{lineOf}
-use Rattle.sheet.proofs.LineLaws.{rest-from, number-bad, number-good, new-blind}
+use Rattle.wire.proofs.TestLaws.{rest-of}
+use Rattle.sheet.proofs.LineLaws.{number-bad, number-good, new-blind}
 use Rattle.sheet.proofs.line.new_from.Statement.{statement}
 use Rattle.sheet.proofs.line.new_from.Tie as tie
 
@@ -33,7 +34,7 @@ returns-2 c =
     let a = c .before .before .before .before .before .args in
     let r = c .before .before .before .number-in in
     let rest = lineOf (a .kind) (a .n) (a .dup) in
-    c .line-of .ensures ∙ ap (rest (r .result .value)) (rest-from (r .result .digits) (a .s .now))
+    c .line-of .ensures ∙ ap (rest (r .result .value)) (rest-of (a .s .now) (r .result .digits))
     ∙ sym (number-good (a .s .now) (r .result .value) (r .result .digits) (r .ensures) rest (new-blind (a .kind) (a .n) (a .dup)) (c .before .before .if1 .left))
 
 pub new-from-spec : {M : Type 1} → statement M

@@ -26,7 +26,7 @@ loop-holds : tie.Need-loop-holds Inv-loop μ-loop
 unfolding plainFields
 loop-holds c =
     let p = c .before .before .before .before .pre in
-    fill-start _ _ _ _ _ _ (c .head .ensures) (p .0) (p .1) (p .2)
+    fill-start _ _ _ _ _ _ (c .head .ensures) (p .0 .0) (p .0 .1) (p .1)
 
 cast-p : tie.Need-cast-p Inv-loop μ-loop
 cast-p c = let l = c .before in omega (arith, fill-found (l .loop .inv) (each-plain _) (c .loop-test .taken) .below)

@@ -45,8 +45,7 @@ put-fields-requires : tie.Need-put-fields-requires
 put-fields-requires c κs =
     let a = c .before .before .before .before .before .before .before .before .before .before .before in
     let x = c .before .before .before .put-head in (
-      omega arith,
-      vetted-low (a .args .header) (a .args .comp .now) (a .args .map .now) (a .args .body .now) (a .args .d .now) (a .args .plain) (a .pre .1),
+      (omega arith, vetted-low (a .args .header) (a .args .comp .now) (a .args .map .now) (a .args .body .now) (a .args .d .now) (a .args .plain) (a .pre .1)),
       vetted-room (a .args .header) (a .args .comp .now) (a .args .map .now) (a .args .body .now) (a .args .d .now) (a .args .plain) (a .pre .1) (x .last .0) (omega (arith, x .kept .0)),
     )
 

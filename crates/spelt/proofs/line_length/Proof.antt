@@ -1,12 +1,12 @@
--- `sheet::sheet::line_length` meets its contract: the invariant is that what is left has the rest of the length.
+-- `spelt::line_length` meets its contract: the invariant is that what is left has the rest of the length.
 use mathlib.Core.Path.{_≡_}
 use Prim.Native.Nat.{_+_, _-_, _≤_, _<_}
 use native.Mathlib.Omega.{arith}
 use lib.ListN.{length, drop}
-use Rattle.sheet.specs.Sheet.{lineLength}
-use Rattle.sheet.proofs.SheetLaws.{length-here, length-more, length-none}
-use Rattle.sheet.proofs.sheet.line_length.Statement.{statement}
-use Rattle.sheet.proofs.sheet.line_length.Tie as tie
+use Rattle.spelt.specs.Lines.{lineLength}
+use Rattle.spelt.proofs.LineLaws.{length-here, length-more, length-none}
+use Rattle.spelt.proofs.line_length.Statement.{statement}
+use Rattle.spelt.proofs.line_length.Tie as tie
 
 abbrev Inv-loop : tie.InvT-loop
 Inv-loop s i₀ i = (i ≤ length s) × (lineLength (drop i s) + i ≡ lineLength s)
