@@ -477,7 +477,7 @@ featherloom_written featherloom_put_logon(uint8_t *buffer, size_t room, featherl
  * The resend plan of a gateway, for a test bench.
  */
 
-/* How many pairs were written; with FEATHERLOOM_NO_ROOM how many are needed. */
+/* How many pairs were written; with FEATHERLOOM_NO_ROOM how many are needed; with FEATHERLOOM_BAD_REQUEST 0. */
 typedef struct featherloom_planned {
     uint32_t refusal;
     size_t pairs;

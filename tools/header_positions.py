@@ -17,9 +17,9 @@ BEGIN, END = "/* positions: begin */\n", "/* positions: end */\n"
 
 def constants(sheet):
     lines = []
-    for kind, position, name in re.findall(r"^type=(\d+) position=(\d+) name=(.*) sort=", sheet, re.M):
+    for messagetype, position, name in re.findall(r"^type=(\d+) position=(\d+) name=(.*) sort=", sheet, re.M):
         word = re.sub(r"[^A-Z0-9]+", "_", name.upper()).strip("_")
-        lines.append(f"#define FEATHERLOOM_{TYPES[int(kind)]}_{word} {position}\n")
+        lines.append(f"#define FEATHERLOOM_{TYPES[int(messagetype)]}_{word} {position}\n")
     return "".join(lines)
 
 

@@ -55,9 +55,9 @@ def page(sheet):
             tables.setdefault(which, []).append(row)
     head = "\n\n| Position | Name | Sort | Width | Required |\n|---|---|---|---|---|\n"
     text = HEAD
-    for kind, rows in sorted(types.items()):
-        title, section = TYPES[kind]
-        text += f"\n## {kind}: {title} (004 section {section})" + head + "".join(rows)
+    for messagetype, rows in sorted(types.items()):
+        title, section = TYPES[messagetype]
+        text += f"\n## {messagetype}: {title} (004 section {section})" + head + "".join(rows)
     for section, rows in sorted(tables.items()):
         text += f"\n## 10, {section}: {REPORTS[section]}" + head + "".join(rows)
     return text

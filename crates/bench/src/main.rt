@@ -111,7 +111,7 @@ fn begins(s: &[u8], word: &[u8]) -> bool {
 }
 
 // The most that Start and End can be, and what stands for every number past it.
-const MOST: u64 = 4294967295;
+const MOST: u64 = u32::MAX as u64;
 
 const PAST: u64 = MOST + 1;
 

@@ -6,7 +6,7 @@ use mathlib.Core.List.{List, [], _∷_, _++_, map}
 use lib.Dec.{eqb, leb}
 use lib.ListN.{length, drop}
 use Rattle.wire.specs.Laying.{laid}
-use Rattle.message.specs.Frame.{frontLength}
+use Rattle.message.specs.Frame.{typeAt, frontLength}
 use Rattle.message.specs.declared.refusal.Refusal.the-variants.{NoRoom}
 use Rattle.message.specs.Refusal.{short}
 use Rattle.session.specs.declared.state.Answer.{Answer}
@@ -27,7 +27,7 @@ use Rattle.calls.specs.declared.Next.the-variants.{On, Ends}
 use Rattle.calls.specs.declared.Turned.{Turned}
 use Rattle.session.specs.Day.{step}
 use Rattle.session.specs.Held.{stateNumber}
-use Rattle.session.specs.State.{last, codeNumber, codeBesides, firstOf, lastOf, sortNumber, sendNone, told}
+use Rattle.session.specs.State.{last, codeNumber, codeBesides, firstOf, lastOf, rowNone, sortNumber, sendNone, told}
 
 -- a row, where in the slice its message begins, and how long that is
 pub record Placed : Type 0 where
@@ -37,7 +37,7 @@ pub record Placed : Type 0 where
 
 -- a step's row, if it has one, and its messages to send
 unfoldable pub rowAt : ℕ → ℕ → Row → List Placed
-rowAt at n r = cond (eqb (sortNumber r) 0) [] (record { row = r; at = at; size = n } ∷ [])
+rowAt at n r = cond (eqb (sortNumber r) rowNone) [] (record { row = r; at = at; size = n } ∷ [])
 
 unfoldable pub sendIn : Send → List Send
 sendIn x = cond (eqb (told x .kind) sendNone) [] (x ∷ [])
@@ -129,7 +129,7 @@ follow others at r q left t =
 
 -- so many turns at most; where no byte is left, 3 are needed
 unfoldable pub turns : ℕ → ℕ → ℕ → ℕ → Session → List ℕ → Did Ended
-turns zero at r q s left = did s (Short 3)
+turns zero at r q s left = did s (Short typeAt)
 turns (suc k) at r q s left = follow (turns k) at r q left (turnOf at r q s left)
 
 -- a turn that does not end the call uses bytes, so there are no more turns than bytes

@@ -10,6 +10,7 @@ use lib.Dec.{eqb}
 use lib.ListN.{length}
 use Rattle.wire.specs.Text.{fixedPart}
 use Rattle.wire.proofs.TestLaws.{either}
+use Rattle.tables.specs.Dictionary.{entry, sortOf, widthOf}
 use Rattle.message.specs.declared.refusal.Refusal.the-variants.{BadField}
 use Rattle.message.specs.Refusal.{numberOf}
 use Rattle.message.specs.Vet.{goodCompId}
@@ -45,7 +46,7 @@ record Connects (s : Session) (password : List ℕ) (r : Connected) : Type 0 whe
   told : r ≡ waits s
 
 connect-in-good : (p : State) (s : Session) (password : List ℕ) → codeNumber (connectIn p s password .code) ≡ 0 → Connects s password (connectIn p s password)
-unfolding connectIn notConnected codeNumber haltNumber numberOf logonOf
+unfolding connectIn notConnected codeNumber haltNumber numberOf logonOf entry sortOf widthOf
 connect-in-good Down s password =
     let P : Connected → Type 0 = λ r. codeNumber (r .code) ≡ 0 → Connects s password r in
     either P (eqb (s .own) last) (λ t z. absurd (omega arith))
@@ -125,4 +126,5 @@ module _ (c : CSession) (password : List ℕ) (z : connectC c password .refusal 
     logon-laid = subst (λ (w : CWritten). (w .refusal ≡ 0) ⊎ (w .refusal ≡ 11)) (sym logon-by-room) (room-refuses logonSize (length d))
 
     pub logon-enough : 512 ≤ length d → logonC (connectC c password .session) password d .refusal ≡ 0
+    unfolding entry sortOf widthOf
     logon-enough r = ap (λ (w : CWritten). w .refusal) logon-by-room ∙ room-takes logonSize (length d) r

@@ -2,6 +2,8 @@
 use Prim.Native.Nat.{ℕ, _+_}
 use mathlib.Core.Bool.{cond}
 use lib.Dec.{eqb, leb}
+use Rattle.tables.specs.declared.dictionary.Field.the-variants.{Password}
+use Rattle.tables.specs.Dictionary.{sortOf, widthOf}
 use Rattle.message.specs.declared.refusal.Refusal.the-variants.{NoRoom}
 use Rattle.message.specs.Frame.{frameBytes}
 use Rattle.message.specs.Refusal.{numberOf}
@@ -17,9 +19,9 @@ sendSize kind =
     cond (eqb kind sendLogout) frameBytes (
     cond (eqb kind sendGapFill) (frameBytes + 1 + 4) (frameBytes + 4 + 4))))
 
--- Connect's Logon: a password has 450 bytes, and a number 4
+-- Connect's Logon: a password and a number
 abbrev pub logonSize : ℕ
-logonSize = frameBytes + 450 + 4
+logonSize = frameBytes + widthOf (sortOf Password) + 4
 
 -- n bytes are laid down where the buffer has them, and else 11 says that they are needed
 unfoldable pub byRoom : ℕ → ℕ → CWritten

@@ -802,7 +802,7 @@ fn begins(s: &[u8], text: &[u8]) -> bool {
 // Our Comp ID in plain form; zeros where it is no Comp ID.
 fn plain_comp_id(text: &[u8]) -> [u8; COMP_ID_BYTES] {
     let mut bytes = [0u8; COMP_ID_BYTES];
-    put_fixed(&mut bytes, 12, text);
+    put_fixed(&mut bytes, COMP_ID_BYTES, text);
     bytes
 }
 

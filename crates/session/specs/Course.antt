@@ -13,11 +13,11 @@ use Rattle.session.specs.declared.state.Session.{Session}
 use Rattle.session.specs.declared.state.State.the-variants.{Down, Waiting}
 use Rattle.session.specs.declared.state.Stepped.{Stepped}
 use Rattle.session.specs.Day.{fresh, saved, connect, drop, step}
-use Rattle.session.specs.State.{last, sortNumber, lastOf}
+use Rattle.session.specs.State.{last, rowNone, sortNumber, lastOf}
 
 -- E after a row: one past its last number, which of a filled or reset row is New - 1; without a row it stays
 unfoldable pub expectedBy : ℕ → Row → ℕ
-expectedBy e r = cond (eqb (sortNumber r) (sortNumber row.Nothing)) e (lastOf r + 1)
+expectedBy e r = cond (eqb (sortNumber r) rowNone) e (lastOf r + 1)
 
 -- t can follow s: after a step on some bytes, after Connect with some password, after Drop
 pub data Follows (s : Session) : Session → Type 0 where

@@ -5,19 +5,20 @@ use mathlib.Core.List.{List}
 use mathlib.Core.Path.{_≡_}
 use lib.Dec.{eqb, leb}
 use lib.ListN.{length, drop}
+use Rattle.session.specs.State.{last}
 use Rattle.sheet.specs.declared.line.Said.{Said}
 use Rattle.sheet.specs.declared.line.Said.the-variants.{Bad}
 use Rattle.sheet.specs.Line.{number}
 
 unfoldable pub capped : ℕ → ℕ
-capped n = cond (leb n 4294967295) n 4294967296
+capped n = cond (leb n last) n (last + 1)
 
 unfoldable pub withDigit : ℕ → ℕ → ℕ
 withDigit n b = capped (n * 10 + (b - 48))
 
 -- what follows does not tell numbers past 32 bits apart
 abbrev pub Blind : (ℕ → List ℕ → Said) → Type 0
-Blind rest = (m n : ℕ) (s : List ℕ) → 4294967295 < m → 4294967295 < n → rest m s ≡ rest n s
+Blind rest = (m n : ℕ) (s : List ℕ) → last < m → last < n → rest m s ≡ rest n s
 
 -- so many digits of this value stand at the front of s
 pub record NumberRead (s : List ℕ) (value digits : ℕ) : Type 0 where

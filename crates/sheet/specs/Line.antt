@@ -8,6 +8,7 @@ use Rattle.wire.specs.Spelled.{spelled}
 use Rattle.sheet.specs.declared.line.Kind.{Kind}
 use Rattle.sheet.specs.declared.line.Kind.the-variants.{Logon, Business, GapFill, Reset}
 use Rattle.sheet.specs.declared.line.Line.{Line}
+use Rattle.session.specs.State.{last}
 use Rattle.sheet.specs.declared.line.Said.{Said}
 use Rattle.sheet.specs.declared.line.Said.the-variants as said
 
@@ -37,14 +38,14 @@ number rest (b ∷ s) = cond (isDigit b) (digitsFrom 0 rest (b ∷ s)) said.Bad
 unfoldable pub mostNew : Kind → ℕ
 mostNew Logon = 0
 mostNew Business = 0
-mostNew GapFill = 4294967295
-mostNew Reset = 4294967295
+mostNew GapFill = last
+mostNew Reset = last
 
 -- bad: anything after it, n=0, a number past 32 bits, a dup above 1, a new where none is used
 unfoldable pub lineOf : Kind → ℕ → ℕ → ℕ → List ℕ → Said
 lineOf kind n dup new [] =
     cond (leb 1 n) (
-    cond (leb n 4294967295) (
+    cond (leb n last) (
     cond (leb dup 1) (
     cond (leb new (mostNew kind)) (said.Line (record { kind = kind; n = n; dup = dup; new = new }))
     said.Bad)

@@ -7,10 +7,26 @@ use native.Mathlib.Omega.{arith}
 use lib.Dec.{eqb, leb}
 use lib.ListN.{length}
 use borrow.Author.Tests.{le-leb, lt-leb, leb-true, eqb-true, eqb-false}
-use Rattle.tables.specs.declared.table.Row.the-variants.{UnknownType}
-use Rattle.tables.specs.Line.{Line}
-use Rattle.tables.specs.Reports.{nineTables, unionAt}
-use Rattle.tables.specs.Tables.{isType, rowOf, tablesOf}
+use Rattle.wire.proofs.TestLaws.{either}
+use Rattle.tables.specs.declared.table.Row.{Row}
+use Rattle.tables.specs.declared.table.Row.the-variants.{Required, Optional, UnknownPosition, UnknownType}
+use Rattle.tables.specs.Line.{Line, isRequired, rowAt}
+use Rattle.tables.specs.Reports.{reports, addLine, column, nineTables, joined, notRequired, unionAt}
+use Rattle.tables.specs.Tables.{
+  heartbeat,
+  testRequest,
+  resendRequest,
+  reject,
+  sequenceReset,
+  logon,
+  logout,
+  lookupRequest,
+  lookupResponse,
+  businessMessageReject,
+  isType,
+  rowOf,
+  tablesOf,
+}
 use Rattle.tables.specs.Types.{executionReportType}
 
 -- one test of a type, all lower ones being passed
@@ -56,3 +72,32 @@ no-row (t ∷ ts) p e =
 pub no-type : (t p : ℕ) → isType t ≡ false → rowOf t p ≡ UnknownType
 unfolding isType rowOf
 no-type t p e = no-row (tablesOf t) p e
+
+-- whether a row is one of some table
+unfoldable pub hasTable : Row → Bool
+hasTable (Required f) = true
+hasTable (Optional f) = true
+hasTable UnknownPosition = true
+hasTable UnknownType = false
+
+abbrev Tells : List (List Line) → Type 0
+Tells ts = hasTable (unionAt ts 0) ≡ leb 1 (length ts)
+
+tells-one : (b : Bool) (x y : List (List Line)) → Tells x → Tells y → Tells (cond b x y)
+tells-one b x y p q = either Tells b (λ t. p) (λ t. q)
+
+-- the row at position 0 tells whether the type has a table
+pub row-tells : (t : ℕ) → hasTable (rowOf t 0) ≡ isType t
+unfolding rowOf isType tablesOf unionAt rowAt isRequired hasTable heartbeat testRequest resendRequest reject sequenceReset logon logout lookupRequest lookupResponse businessMessageReject nineTables reports addLine column joined notRequired
+row-tells t =
+    tells-one (eqb t 0) _ _ refl
+    (tells-one (eqb t 1) _ _ refl
+    (tells-one (eqb t 2) _ _ refl
+    (tells-one (eqb t 3) _ _ refl
+    (tells-one (eqb t 4) _ _ refl
+    (tells-one (eqb t 5) _ _ refl
+    (tells-one (eqb t 6) _ _ refl
+    (tells-one (eqb t 7) _ _ refl
+    (tells-one (eqb t 8) _ _ refl
+    (tells-one (eqb t 9) _ _ refl
+    (tells-one (eqb t 10) _ _ refl refl))))))))))

@@ -32,6 +32,7 @@ use session::state::Session;
 use session::state::State;
 use session::state::Stepped;
 use tables::dictionary::Field;
+use tables::table::EXECUTION_REPORT;
 use wire::decimal::put_decimal;
 use wire::map::MAP_BYTES;
 use wire::number::read_u64;
@@ -99,7 +100,7 @@ fn say_reading(s: &[u8]) {
             say_number(length as u64);
             say(b" comp ");
             say(comp_id(s));
-            if header.messagetype == 10 {
+            if header.messagetype == EXECUTION_REPORT {
                 say_shares(s);
             }
         }

@@ -1,7 +1,8 @@
 -- Demand 2: messages with one plain form say the same, the converse of `same-fields-same-plain`.
 use mathlib.Core.Path.{_≡_, sym, ap₂, subst, _∙_}
-use Prim.Native.Nat.{ℕ, _+_}
+use Prim.Native.Nat.{ℕ}
 use mathlib.Core.List.{List, [], _++_}
+use lib.ListN.{length}
 use Rattle.wire.specs.Number.{Bytes}
 use Rattle.fields.specs.Value.{valueAt, textAt}
 use Rattle.tables.specs.Tables.{rowOf}
@@ -11,7 +12,7 @@ use Rattle.message.specs.Frame.{compIdIn, mapIn, bodyIn}
 use Rattle.message.specs.Read.{readOf}
 use Rattle.writer.specs.Plain.{plainOf}
 use Rattle.writer.specs.Same.{SameFields}
-use Rattle.writer.proofs.GoodLaws.{plainLength, plain-form-says}
+use Rattle.writer.proofs.GoodLaws.{plain-form-says}
 use Rattle.writer.specs.Says.{Says}
 
 -- the same bytes t say one message only
@@ -34,6 +35,6 @@ says-one t k k′ s s′ h h′ n n′ x x′ =
 pub same-plain-same-fields : (s s′ : List ℕ) (h h′ : Header) (n n′ : ℕ) → readOf s ≡ Good h n → readOf s′ ≡ Good h′ n′ → Bytes s → Bytes s′
     → plainOf s ≡ plainOf s′ → SameFields s s′ h h′ n n′
 same-plain-same-fields s s′ h h′ n n′ e e′ bytes bytes′ q =
-    let k′ = 58 + plainLength s′ h′ n′ e′ in
+    let k′ = length (plainOf s′) in
     let x′ = subst (λ (t : List ℕ). Says (t ++ []) k′ h′ (compIdIn s′) (mapIn s′) (bodyIn n′ s′)) (sym q) (plain-form-says s′ h′ n′ e′ bytes′ []) in
-    says-one (plainOf s ++ []) (58 + plainLength s h n e) k′ s s′ h h′ n n′ (plain-form-says s h n e bytes []) x′
+    says-one (plainOf s ++ []) (length (plainOf s)) k′ s s′ h h′ n n′ (plain-form-says s h n e bytes []) x′

@@ -1,86 +1,51 @@
--- `tables::table::is_type` meets its contract: each type's table, and no table for another type. Assumes nothing.
-use borrow.Author.Tests.{ne-eqb}
-use Rattle.tables.specs.Reports.{nineTables}
-use Rattle.tables.specs.Tables.{isType, tablesOf}
+-- `tables::table::is_type` meets its contract: the row at position 0 tells. Assumes nothing.
+use mathlib.Core.Path.{sym, ap, _∙_}
+use borrow.Author.Needs.{needs}
+use Rattle.tables.proofs.Types.{hasTable, row-tells}
 use Rattle.tables.proofs.table.is_type.Statement.{statement}
 use Rattle.tables.proofs.table.is_type.Tie as tie
 
+row-of-requires : tie.Need-row-of-requires
+row-of-requires c κs = search needs
+
+enum-told : tie.Need-enum-told
+enum-told c = search needs
+
+enum-told-2 : tie.Need-enum-told-2
+enum-told-2 c = search needs
+
+enum-told-3 : tie.Need-enum-told-3
+enum-told-3 c = search needs
+
+enum-told-4 : tie.Need-enum-told-4
+enum-told-4 c = search needs
+
 returns : tie.Need-returns
-unfolding isType tablesOf
-returns c = simp (c .match .keys1)
+unfolding hasTable
+returns c = sym (ap hasTable (sym (c .before .before .row-of .ensures) ∙ c .enum-told .given .1)) ∙ row-tells _
 
 returns-2 : tie.Need-returns-2
-unfolding isType tablesOf
-returns-2 c = simp (c .match .keys2)
+unfolding hasTable
+returns-2 c = sym (ap hasTable (sym (c .before .before .row-of .ensures) ∙ c .enum-told2 .given .1)) ∙ row-tells _
 
 returns-3 : tie.Need-returns-3
-unfolding isType tablesOf
-returns-3 c = simp (c .match .keys3)
+unfolding hasTable
+returns-3 c = sym (ap hasTable (sym (c .before .before .row-of .ensures) ∙ c .enum-told3 .given .1)) ∙ row-tells _
 
 returns-4 : tie.Need-returns-4
-unfolding isType tablesOf
-returns-4 c = simp (c .match .keys4)
-
-returns-5 : tie.Need-returns-5
-unfolding isType tablesOf
-returns-5 c = simp (c .match .keys5)
-
-returns-6 : tie.Need-returns-6
-unfolding isType tablesOf
-returns-6 c = simp (c .match .keys6)
-
-returns-7 : tie.Need-returns-7
-unfolding isType tablesOf
-returns-7 c = simp (c .match .keys7)
-
-returns-8 : tie.Need-returns-8
-unfolding isType tablesOf
-returns-8 c = simp (c .match .keys8)
-
-returns-9 : tie.Need-returns-9
-unfolding isType tablesOf
-returns-9 c = simp (c .match .keys9)
-
-returns-10 : tie.Need-returns-10
-unfolding isType tablesOf
-returns-10 c = simp (c .match .keys10)
-
-returns-11 : tie.Need-returns-11
-unfolding isType tablesOf nineTables
-returns-11 c = simp (c .match .keys11)
-
-returns-12 : tie.Need-returns-12
-unfolding isType tablesOf
-returns-12 c =
-    let k = c .before .args .messagetype in
-    let r = c .match .rest in
-    simp (
-      ne-eqb k 0 (r .0 .0 .0 .0 .0 .0 .0 .0 .0 .0 .1),
-      ne-eqb k 1 (r .0 .0 .0 .0 .0 .0 .0 .0 .0 .1),
-      ne-eqb k 2 (r .0 .0 .0 .0 .0 .0 .0 .0 .1),
-      ne-eqb k 3 (r .0 .0 .0 .0 .0 .0 .0 .1),
-      ne-eqb k 4 (r .0 .0 .0 .0 .0 .0 .1),
-      ne-eqb k 5 (r .0 .0 .0 .0 .0 .1),
-      ne-eqb k 6 (r .0 .0 .0 .0 .1),
-      ne-eqb k 7 (r .0 .0 .0 .1),
-      ne-eqb k 8 (r .0 .0 .1),
-      ne-eqb k 9 (r .0 .1),
-      ne-eqb k 10 (r .1),
-    )
+unfolding hasTable
+returns-4 c = sym (ap hasTable (sym (c .before .before .row-of .ensures) ∙ c .enum-told4 .given .1)) ∙ row-tells _
 
 pub is-type-spec : {M : Type 1} → statement M
 is-type-spec =
     tie.close
     (tie.spec
+    row-of-requires
+    enum-told
+    enum-told-2
+    enum-told-3
+    enum-told-4
     returns
     returns-2
     returns-3
-    returns-4
-    returns-5
-    returns-6
-    returns-7
-    returns-8
-    returns-9
-    returns-10
-    returns-11
-    returns-12)
+    returns-4)
