@@ -1774,6 +1774,15 @@ fn sheet(rng: &mut Rng) -> Vec<u8> {
     text
 }
 
+/// A day of ten thousand lines: several times what the program's buffer holds.
+fn long_sheet() -> Vec<u8> {
+    let mut text = String::from("kind=logon n=1 dup=0 new=0\n");
+    for n in 2..=10_000 {
+        text += &format!("kind=business n={} dup=0 new=0\n", n);
+    }
+    text.into_bytes()
+}
+
 fn daysheets(tally: &mut Tally, rng: &mut Rng, command: &str, count: u64) {
     let command: Vec<&str> = command.split_whitespace().collect();
     let example = b"kind=logon n=1 dup=0 new=0
@@ -1783,12 +1792,12 @@ kind=gapfill n=3 dup=1 new=5
 kind=business n=5 dup=1 new=0
 kind=business n=2 dup=1 new=0
 ";
-    let mut text = example.to_vec();
+    let mut given = vec![long_sheet(), example.to_vec()];
     for _ in 0..count {
+        let text = given.pop().unwrap_or_else(|| sheet(rng));
         let twin = String::from_utf8_lossy(&daysheet::daysheet(&text)).into_owned();
         let proved = String::from_utf8_lossy(&printed(&command, &text)).into_owned();
         tally.hold(0, twin, proved, || format!("daysheet {}", hex(&text)));
-        text = sheet(rng);
     }
 }
 
