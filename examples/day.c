@@ -17,9 +17,6 @@
 static const char COMP_ID[] = "CO99999901";
 static const char PASSWORD[] = "encrypted elsewhere";
 
-/* No message is longer. */
-enum { MESSAGE_MOST = 4096 };
-
 static const uint8_t *bytes_of(const char *text) { return (const uint8_t *)text; }
 
 /* The numbers of the field at this position, or NULL where the message has none there. */
@@ -65,7 +62,7 @@ static void print_report(const uint8_t *bytes, size_t count) {
 
 /* Lays a message to send down as bytes, and reads it back: what the gateway would read. */
 static void send_it(featherloom_session session, featherloom_send send) {
-    uint8_t buffer[MESSAGE_MOST];
+    uint8_t buffer[FEATHERLOOM_LONGEST_WRITTEN];
     featherloom_written written = featherloom_put(buffer, sizeof buffer, session, send);
     if (written.refusal != FEATHERLOOM_OK) {
         printf("  send refused=%u besides=%zu\n", written.refusal, written.besides);
@@ -78,7 +75,7 @@ static void send_it(featherloom_session session, featherloom_send send) {
 
 /* The session that comes back may be kept even where Connect refuses: it is then the one that was given. */
 static featherloom_session connect_it(featherloom_session session) {
-    uint8_t buffer[MESSAGE_MOST];
+    uint8_t buffer[FEATHERLOOM_LONGEST_WRITTEN];
     featherloom_connected connected = featherloom_connect(session, bytes_of(PASSWORD), strlen(PASSWORD));
     if (connected.refusal != FEATHERLOOM_OK) {
         printf("connect refused=%u\n", connected.refusal);

@@ -30,7 +30,7 @@ extern "C" {
  * The version of this header. The library that was linked tells its own as one number, made as FEATHERLOOM_VERSION is. Compare
  * the two before any other call: where they differ, structs and functions may differ as well.
  */
-#define FEATHERLOOM_VERSION_MAJOR 2
+#define FEATHERLOOM_VERSION_MAJOR 3
 #define FEATHERLOOM_VERSION_MINOR 0
 #define FEATHERLOOM_VERSION_PATCH 0
 #define FEATHERLOOM_VERSION \
@@ -55,7 +55,6 @@ enum {
     FEATHERLOOM_BAD_FIELD = 9,        /* besides: the first bad field's position */
     FEATHERLOOM_LEFT_OVER = 10,       /* bytes after the last field; besides: how many */
     FEATHERLOOM_NO_ROOM = 11,         /* besides: what is needed; of a plan it is in `pairs`, of many steps in `rows` and `sends` */
-    FEATHERLOOM_TOO_LONG = 12,        /* the written message would have more than 4,096 bytes */
     FEATHERLOOM_ABSENT = 13,          /* the position asked is known, and clear */
     FEATHERLOOM_OTHER_SORT = 14,      /* a number asked of a text, or a text of a number */
     FEATHERLOOM_DOWN = 20,            /* a step on a Down session */
@@ -275,10 +274,13 @@ typedef struct featherloom_written {
     size_t length;
 } featherloom_written;
 
+/* The longest message that can be written: a Logon with every field, each text full. docs/LAYOUT.md has those of all types. */
+enum { FEATHERLOOM_LONGEST_WRITTEN = 1016 };
+
 /*
  * Writes the message in plain form: header values, the Comp ID's characters (no null), a map of 32 bytes, and the fields
- * in wire form. Refusals 5 to 10, 12, 11. At most 4,096 bytes are needed. `map` is never NULL, and none of the three stands
- * inside the buffer.
+ * in wire form. Refusals 5 to 10, then 11, which a buffer of FEATHERLOOM_LONGEST_WRITTEN bytes never meets. `map` is never
+ * NULL, and none of the three stands inside the buffer.
  */
 featherloom_written featherloom_write(uint8_t *buffer, size_t room, featherloom_header header, const uint8_t *comp_id,
                                       size_t comp_id_count, const uint8_t map[32], const uint8_t *body,

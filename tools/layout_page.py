@@ -33,6 +33,7 @@ REPORTS = {
     "7.8.9": "Trade (Semi-auto-matched Trade Cancelled)",
 }
 LINE = re.compile(r"(type|table)=([\d.]+) position=(\d+) name=(.*) sort=(\w+) width=(\d+) required=([YN])")
+LONGEST = re.compile(r"type=(\d+) longest=(\d+)")
 
 HEAD = """# The layout sheet
 
@@ -40,13 +41,17 @@ What the proved tables say of each message type, to be laid beside 004. The prog
 from the tables themselves, and the gate holds this page to what it prints. Names and widths are those of 004 section
 8.2; the width of a variable text is the most that its length may say, null counted. A report's position is required
 where all nine tables of section 7.8 require it; the nine follow at the end, one by one, each with its own positions and
-required marks.
+required marks. The longest message of a type, frame and all, has every position of its tables and each text full: no
+good message of the type is longer, and one of that very length exists. The longest that can be written is a Logon.
 """
 
 
 def page(sheet):
-    types, tables = {}, {}
+    longest, types, tables = {}, {}, {}
     for line in sheet.splitlines():
+        if found := LONGEST.fullmatch(line):
+            longest[int(found[1])] = found[2]
+            continue
         word, which, position, name, sort, width, required = LINE.fullmatch(line).groups()
         row = f"| {position} | {name} | {sort} | {width} | {required} |\n"
         if word == "type":
@@ -57,7 +62,8 @@ def page(sheet):
     text = HEAD
     for messagetype, rows in sorted(types.items()):
         title, section = TYPES[messagetype]
-        text += f"\n## {messagetype}: {title} (004 section {section})" + head + "".join(rows)
+        text += f"\n## {messagetype}: {title} (004 section {section})\n\n"
+        text += f"Longest message: {longest[messagetype]} bytes." + head + "".join(rows)
     for section, rows in sorted(tables.items()):
         text += f"\n## 10, {section}: {REPORTS[section]}" + head + "".join(rows)
     return text

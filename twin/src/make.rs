@@ -7,6 +7,7 @@ use crate::crc::crc32c;
 use crate::session::{self, Phase, Session, LAST};
 use crate::tables::{self, types, Field, Sort};
 use crate::wire::{set, BODY_AT, COMP_ID_WIDTH, LEAST, MAP_WIDTH, MOST, START, TRAILER};
+use crate::writer::HeadValues;
 
 /// splitmix64.
 #[derive(Clone, Debug)]
@@ -229,6 +230,122 @@ pub fn comp_id(rng: &mut Rng) -> Vec<u8> {
             return text;
         }
     }
+}
+
+/// What a writer is given.
+#[derive(Clone, Debug)]
+pub struct ToWrite {
+    pub head: HeadValues,
+    /// Characters, without a null.
+    pub comp_id: Vec<u8>,
+    pub map: [u8; MAP_WIDTH],
+    pub body: Vec<u8>,
+}
+
+/// One of the texts of a message.
+#[derive(Clone, Copy, Debug, PartialEq, Eq)]
+pub enum Text {
+    CompId,
+    /// The field at a position.
+    At(usize, Field),
+}
+
+impl Text {
+    /// How many characters a full one has: its null takes one byte of the width.
+    pub fn full(self) -> usize {
+        match self {
+            Text::CompId => COMP_ID_WIDTH - 1,
+            Text::At(_, field) => field.width - 1,
+        }
+    }
+}
+
+/// The fields that a type knows, in rising position.
+fn known(message_type: u8) -> impl Iterator<Item = (usize, Field)> {
+    (0..256).filter_map(move |position| {
+        tables::find(message_type, position).map(|entry| (position, entry.field))
+    })
+}
+
+/// The texts of a type's messages.
+pub fn texts(message_type: u8) -> Vec<Text> {
+    let fields = known(message_type).filter(|(_, field)| field.is_text());
+    let fields = fields.map(|(position, field)| Text::At(position, field));
+    std::iter::once(Text::CompId).chain(fields).collect()
+}
+
+/// So many characters, from the first to the last of them and again.
+fn characters(count: usize) -> Vec<u8> {
+    (32..=126).cycle().take(count).collect()
+}
+
+/// A text in a field, with its null, even if that is more than the field may
+/// have. In a fixed one of as many characters as its width, no null is left
+/// inside it.
+fn laid_text(field: Field, text: &[u8]) -> Vec<u8> {
+    let with_null = [text, &[0]].concat();
+    match field.sort {
+        Sort::Variable => {
+            let length = with_null.len() as u16;
+            [&length.to_le_bytes()[..], &with_null].concat()
+        }
+        _ => {
+            let mut bytes = with_null;
+            bytes.resize(bytes.len().max(field.width), 0);
+            bytes
+        }
+    }
+}
+
+/// A number, Byte or Decimal with all its bits set, unless it is a Gap Fill.
+fn greatest(field: Field) -> Vec<u8> {
+    if field.name == tables::GAP_FILL.name {
+        return vec![b'Y'];
+    }
+    vec![u8::MAX; field.width]
+}
+
+/// A message with every position that its type knows, in plain form; `count`
+/// tells how many characters each text has.
+fn every_position(message_type: u8, count: impl Fn(Text) -> usize) -> ToWrite {
+    let mut map = [0; MAP_WIDTH];
+    let mut body = Vec::new();
+    for (position, field) in known(message_type) {
+        set(&mut map, position);
+        body.extend(if field.is_text() {
+            laid_text(field, &characters(count(Text::At(position, field))))
+        } else {
+            greatest(field)
+        });
+    }
+    ToWrite {
+        head: HeadValues {
+            message_type,
+            number: LAST,
+            poss_dup: 1,
+            poss_resend: 1,
+        },
+        comp_id: characters(count(Text::CompId)),
+        map,
+        body,
+    }
+}
+
+/// The longest message of a type: every known position, each text full.
+pub fn longest(message_type: u8) -> ToWrite {
+    every_position(message_type, Text::full)
+}
+
+/// The longest message, but one text has a character less.
+pub fn one_shorter(message_type: u8, short: Text) -> ToWrite {
+    every_position(message_type, |text| {
+        text.full() - usize::from(text == short)
+    })
+}
+
+/// The longest message, but one text has a character more than it may have.
+pub fn one_too_long(message_type: u8, long: Text) -> ToWrite {
+    every_position(message_type, |text| text.full() + usize::from(text == long))
 }
 
 /// Makes the checksum right again for the Length that stands there; nothing if

@@ -685,9 +685,6 @@ pub fn write(
     })?;
     check_end(body, end)?;
     let length = BODY + body.len() - left_out + TRAILER;
-    if length > 4096 {
-        return refused(12, 0);
-    }
     if length > out.len() {
         return refused(11, length);
     }

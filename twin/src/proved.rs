@@ -76,6 +76,9 @@ pub struct Written {
     pub length: usize,
 }
 
+/// Room for every message that can be written.
+pub const LONGEST_WRITTEN: usize = 1016;
+
 pub const DOWN: u32 = 0;
 pub const WAITING: u32 = 1;
 pub const LIVE: u32 = 2;

@@ -1,6 +1,8 @@
 //! The data dictionary (004 section 8.2) and the tables of the message types
 //! 0 to 10 (004 sections 7.6, 7.7, 7.8, 7.11), typed by hand.
 
+use crate::wire::{BODY_AT, TRAILER};
+
 /// How a field lies in the body (004 section 6.1).
 #[derive(Clone, Copy, Debug, PartialEq, Eq)]
 pub enum Sort {
@@ -17,12 +19,30 @@ pub enum Sort {
     Variable,
 }
 
+/// The UInt16 in front of a variable text that tells its length.
+pub const TEXT_LENGTH: usize = 2;
+
 /// A line of the dictionary.
 #[derive(Clone, Copy, Debug, PartialEq, Eq)]
 pub struct Field {
     pub name: &'static str,
     pub sort: Sort,
     pub width: usize,
+}
+
+impl Field {
+    pub fn is_text(self) -> bool {
+        matches!(self.sort, Sort::Fixed | Sort::Variable)
+    }
+
+    /// The most bytes that the field takes. Only a variable text may take
+    /// fewer, and only it has a length besides.
+    pub fn most(self) -> usize {
+        match self.sort {
+            Sort::Number | Sort::Byte | Sort::Decimal | Sort::Fixed => self.width,
+            Sort::Variable => TEXT_LENGTH + self.width,
+        }
+    }
 }
 
 const fn field(name: &'static str, sort: Sort, width: usize) -> Field {
@@ -562,9 +582,23 @@ pub fn find(message_type: u8, position: usize) -> Option<Entry> {
     *ALL.get(usize::from(message_type))?.get(position)?
 }
 
+/// The longest length of a type's messages: header and trailer, and every field
+/// that a table of it names, each text full. The type is one that is held.
+pub fn longest(message_type: u8) -> usize {
+    let fields = ALL[usize::from(message_type)].iter().flatten();
+    let body: usize = fields.map(|entry| entry.field.most()).sum();
+    BODY_AT + body + TRAILER
+}
+
+/// The longest length of all messages.
+pub fn longest_of_all() -> usize {
+    (0..=types::LAST).map(longest).fold(0, usize::max)
+}
+
 #[cfg(test)]
 mod tests {
     use super::*;
+    use crate::wire::MOST;
 
     #[test]
     fn the_nine_tables_agree_where_they_share_a_position() {
@@ -605,5 +639,96 @@ mod tests {
         assert_eq!(find(10, 43).map(|entry| entry.field), Some(SMP_ID));
         assert!((44..300).all(|p| find(10, p).is_none()));
         assert_eq!(find(11, 0), None);
+    }
+
+    /// The widths are those of 004 section 8, summed here in the order of each
+    /// table of section 7 and not by way of the fields above.
+    #[test]
+    fn the_longest_lengths_by_hand() {
+        // 7.4 and 7.5: Start of Message, Length, Message Type, Sequence Number,
+        // PossDup, PossResend, Comp ID, Body Fields Presence Map; Checksum.
+        let frame = 1 + 2 + 1 + 4 + 1 + 1 + 12 + 32 + 4;
+        assert_eq!(frame, 58);
+        // Variable texts with their two bytes of length: Text (Max = 50), and
+        // Reason and Logout Text (Max = 75 each).
+        let text = 2 + 50;
+        let reason = 2 + 75;
+        let logout_text = 2 + 75;
+
+        // 7.7.3: Reference Test Request ID.
+        let heartbeat = 2;
+        // 7.7.4: Test Request ID.
+        let test_request = 2;
+        // 7.7.5: Start Sequence Number, End Sequence Number.
+        let resend_request = 4 + 4;
+        // 7.7.6: Message Reject Code, Reason, Reference Message Type, Reference
+        // Field Name, Reference Sequence Number, Client Order ID.
+        let reject = 2 + reason + 1 + 50 + 4 + 21;
+        // 7.7.7: Gap Fill, New Sequence Number.
+        let sequence_reset = 1 + 4;
+        // 7.7.1: Password, New Password, Next Expected Message Sequence, Session
+        // Status, Text, Test Message Indicator.
+        let logon = 450 + 450 + 4 + 1 + text + 1;
+        // 7.7.2: Logout Text, Session Status.
+        let logout = logout_text + 1;
+        // 7.6.1: Type Of Service, Protocol Type.
+        let lookup_request = 1 + 1;
+        // 7.6.2: Status, Lookup Reject Code, Reason, Primary IP, Primary Port,
+        // Secondary IP, Secondary Port.
+        let lookup_response = 1 + 1 + reason + 16 + 2 + 16 + 2;
+        // 7.11.1: Business Reject Code, Reason, Reference Message Type, Reference
+        // Field Name, Reference Sequence Number, Business Reject Reference ID.
+        let business_message_reject = 2 + reason + 1 + 50 + 4 + 21;
+
+        // 7.8.1 to 7.8.9, each position that one of the nine names.
+        // 0 to 3: Client Order ID, Submitting Broker ID, Security ID, Security
+        // ID Source.
+        let mut execution_report = 21 + 12 + 21 + 1;
+        // 4 to 7: Security Exchange, Broker Location ID, Transaction Time, Side.
+        execution_report += 5 + 11 + 25 + 1;
+        // 8 (only 7.8.2 and 7.8.5) and 9: Original Client Order ID, Order ID.
+        execution_report += 21 + 21;
+        // 11 to 15: Order Type, Price, Order Quantity, Time In Force, Position
+        // Effect.
+        execution_report += 1 + 8 + 8 + 1 + 1;
+        // 16 to 18: Order Restrictions, Max Price Levels, Order Capacity.
+        execution_report += 21 + 1 + 1;
+        // 19 and 20 (only 7.8.4): Text, Reason.
+        execution_report += text + reason;
+        // 21 to 25: Execution ID, Order Status, Exec Type, Cumulative Quantity,
+        // Leaves Quantity.
+        execution_report += 21 + 1 + 1 + 8 + 8;
+        // 27 and 28: Lot Type, Exec Restatement Reason.
+        execution_report += 1 + 2;
+        // 30 to 33: Match Type, Counterparty Broker ID, Execution Quantity,
+        // Execution Price.
+        execution_report += 1 + 12 + 8 + 8;
+        // 34 and 35: Reference Execution ID, Order Category.
+        execution_report += 21 + 1;
+        // 37 to 39: Copy Message Indicator, Trade Match ID, Exchange Trade Type.
+        execution_report += 1 + 25 + 1;
+        // 42 and 43: Aggressor Indicator, SMP ID.
+        execution_report += 1 + 10;
+
+        let sums = [
+            (types::HEARTBEAT, heartbeat, 60),
+            (types::TEST_REQUEST, test_request, 60),
+            (types::RESEND_REQUEST, resend_request, 66),
+            (types::REJECT, reject, 213),
+            (types::SEQUENCE_RESET, sequence_reset, 63),
+            (types::LOGON, logon, 1016),
+            (types::LOGOUT, logout, 136),
+            (types::LOOKUP_REQUEST, lookup_request, 60),
+            (types::LOOKUP_RESPONSE, lookup_response, 173),
+            (types::BUSINESS_MESSAGE_REJECT, business_message_reject, 213),
+            (types::EXECUTION_REPORT, execution_report, 499),
+        ];
+        assert_eq!(sums.len(), types::COUNT);
+        for (message_type, fields, length) in sums {
+            assert_eq!(frame + fields, length, "type {}", message_type);
+            assert_eq!(longest(message_type), length, "type {}", message_type);
+        }
+        assert_eq!(longest_of_all(), 1016);
+        assert!(longest_of_all() <= MOST);
     }
 }

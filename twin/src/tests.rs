@@ -1,5 +1,5 @@
 use crate::daysheet::daysheet;
-use crate::make::{self, Event, Given, Rng};
+use crate::make::{self, Event, Given, Rng, Text, ToWrite};
 use crate::plan::plan;
 use crate::reader::{self, Value, A_FIELD};
 use crate::reports::LIST;
@@ -7,7 +7,7 @@ use crate::session::{
     self, Answer, Done, Ended, Phase, Row, RowSort, Send, Session, A_ROW, A_SEND, LAST, LAST_KIND,
     NOTHING, NOT_A_SEND, NO_ROW,
 };
-use crate::tables::{self, Sort};
+use crate::tables::{self, types, Sort};
 use crate::wire::{self, is_set, refuse, set, Refusal, LEAST, MAP_WIDTH, MOST};
 use crate::writer::{self, HeadValues};
 use crate::{crc, plain};
@@ -650,6 +650,7 @@ fn every_type_there_and_back() {
             let mut out = [0; MOST];
             let body = reader::body(&bytes);
             let length = writer::write(&values, &comp_id, &map, body, &mut out).unwrap();
+            assert!(length <= tables::longest(message_type));
             let out = &out[..length];
             let again = reader::read(out).unwrap();
             assert_eq!(again, reader::Head { length, ..head });
@@ -666,7 +667,7 @@ fn every_type_there_and_back() {
                         assert_eq!(text.unwrap_err().number, 13)
                     }
                     Some(entry) => {
-                        let is_text = matches!(entry.field.sort, Sort::Fixed | Sort::Variable);
+                        let is_text = entry.field.is_text();
                         assert_eq!(text.is_ok(), is_text);
                         assert_eq!(number.is_ok(), !is_text);
                     }
@@ -677,6 +678,111 @@ fn every_type_there_and_back() {
             let body = reader::body(out);
             let length = writer::write(&values, &comp_id, &map, body, &mut twice).unwrap();
             assert_eq!(&twice[..length], out);
+        }
+    }
+}
+
+/// What is written into a buffer with so much room. The plain side must do the
+/// same, and both must leave alone what stands behind, and on a refusal all.
+fn written_with(given: &ToWrite, room: usize) -> Result<Vec<u8>, Refusal> {
+    let ToWrite {
+        head,
+        comp_id,
+        map,
+        body,
+    } = given;
+    let (mut out, mut fast) = ([0xEE; MOST], [0xEE; MOST]);
+    let answer = writer::write(head, comp_id, map, body, &mut out[..room]);
+    let plain = plain::write(head, comp_id, map, body, &mut fast[..room]);
+    assert_eq!(plain, answer, "{:?}", given);
+    assert_eq!(fast, out, "{:?}", given);
+    let length = answer.unwrap_or(0);
+    assert!(out[length..].iter().all(|&byte| byte == 0xEE));
+    answer.map(|length| out[..length].to_vec())
+}
+
+/// What was written reads as what the writer was given. The body is the same as
+/// well, since it was given in plain form.
+fn reads_as_given(bytes: &[u8], given: &ToWrite) {
+    let head = reader::Head {
+        message_type: given.head.message_type,
+        number: given.head.number,
+        poss_dup: given.head.poss_dup,
+        poss_resend: given.head.poss_resend,
+        length: bytes.len(),
+    };
+    assert_eq!(reader::read(bytes), Ok(head));
+    assert_eq!(plain::read(bytes), Ok(head));
+    assert_eq!(reader::comp_id(bytes), given.comp_id);
+    assert_eq!(reader::map(bytes), given.map);
+    assert_eq!(reader::body(bytes), given.body);
+}
+
+/// How many characters a text of a message has.
+fn count_of(bytes: &[u8], text: Text) -> usize {
+    match text {
+        Text::CompId => reader::comp_id(bytes).len(),
+        Text::At(position, _) => reader::ask_text(bytes, position as u32).unwrap().len(),
+    }
+}
+
+#[test]
+fn the_longest_messages_there_and_back() {
+    for message_type in 0..=types::LAST {
+        let given = make::longest(message_type);
+        let longest = tables::longest(message_type);
+        let bytes = written_with(&given, longest).unwrap();
+        assert_eq!(bytes.len(), longest);
+        reads_as_given(&bytes, &given);
+        for text in make::texts(message_type) {
+            assert_eq!(count_of(&bytes, text), text.full(), "{:?}", text);
+        }
+        assert_eq!(written_with(&given, tables::longest_of_all()), Ok(bytes));
+        let no_room = refuse(wire::NO_ROOM, longest);
+        assert_eq!(written_with(&given, longest - 1), Err(no_room));
+        assert_eq!(written_with(&given, 0), Err(no_room));
+    }
+}
+
+/// A variable text gives its byte back, a fixed one keeps its width.
+#[test]
+fn one_text_a_character_shorter() {
+    for message_type in 0..=types::LAST {
+        for short in make::texts(message_type) {
+            let given = make::one_shorter(message_type, short);
+            let less = match short {
+                Text::At(_, field) if field.sort == Sort::Variable => 1,
+                _ => 0,
+            };
+            let length = tables::longest(message_type) - less;
+            let bytes = written_with(&given, length).unwrap();
+            assert_eq!(bytes.len(), length, "{:?}", short);
+            reads_as_given(&bytes, &given);
+            for text in make::texts(message_type) {
+                let count = text.full() - usize::from(text == short);
+                assert_eq!(count_of(&bytes, text), count, "{:?}", text);
+            }
+            let no_room = refuse(wire::NO_ROOM, length);
+            assert_eq!(written_with(&given, length - 1), Err(no_room));
+        }
+    }
+}
+
+/// A Comp ID that is too long is a bad header, every other text a bad field,
+/// whatever the room is.
+#[test]
+fn one_text_too_long() {
+    for message_type in 0..=types::LAST {
+        let longest = tables::longest(message_type);
+        for long in make::texts(message_type) {
+            let given = make::one_too_long(message_type, long);
+            let refusal = match long {
+                Text::CompId => refuse(wire::BAD_HEADER, 0),
+                Text::At(position, _) => refuse(wire::BAD_FIELD, position),
+            };
+            for room in [0, longest, longest + 1, MOST] {
+                assert_eq!(written_with(&given, room), Err(refusal), "{:?}", long);
+            }
         }
     }
 }
@@ -2005,7 +2111,7 @@ fn plain_asks_as_reader() {
 fn plain_lists_as_reader() {
     const BEFORE: u64 = 0xEEEE_EEEE_EEEE_EEEE;
     let mut rng = Rng::new(23);
-    let mut seen = [0u32; 12];
+    let mut seen = [0u32; wire::NO_ROOM as usize + 1];
     for _ in 0..6_000 {
         let bytes = good_or_spoiled(&mut rng);
         let needed = reader::list(&bytes, LIST).map_or(0, |(_, all)| A_FIELD * all.len());
@@ -2063,7 +2169,7 @@ fn spoil_parts(
 #[test]
 fn plain_writes_as_writer() {
     let mut rng = Rng::new(11);
-    let mut seen = [0u32; 12];
+    let mut seen = [0u32; wire::NO_ROOM as usize + 1];
     for _ in 0..20_000 {
         let mut head = HeadValues {
             message_type: make::message_type(&mut rng),

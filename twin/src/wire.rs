@@ -1,7 +1,7 @@
 //! What reader and writer share: the refusals, the frame's sizes, the map's
 //! bits and the rules of texts (document 01, "The frame").
 
-use crate::tables::{self, Field, Sort};
+use crate::tables::{self, Field, Sort, TEXT_LENGTH};
 
 /// A refusal by its number in document 01, and what the table returns besides
 /// (0 where it returns nothing).
@@ -22,7 +22,6 @@ pub const MISSING_FIELD: u32 = 8;
 pub const BAD_FIELD: u32 = 9;
 pub const LEFT_OVER: u32 = 10;
 pub const NO_ROOM: u32 = 11;
-pub const TOO_LONG: u32 = 12;
 pub const ABSENT: u32 = 13;
 pub const OTHER_SORT: u32 = 14;
 
@@ -143,16 +142,16 @@ fn take(position: usize, field: Field, rest: &[u8]) -> Option<Found<'_>> {
             Some(found(field.width, text))
         }
         Sort::Variable => {
-            if rest.len() < 2 {
+            if rest.len() < TEXT_LENGTH {
                 return None;
             }
             // The length counts the null, but not its own two bytes.
-            let length = number(&rest[..2]) as usize;
-            if length == 0 || length > field.width || rest.len() - 2 < length {
+            let length = number(&rest[..TEXT_LENGTH]) as usize;
+            if length == 0 || length > field.width || rest.len() - TEXT_LENGTH < length {
                 return None;
             }
-            let text = before_null(&rest[2..2 + length])?;
-            Some(found(2 + length, text))
+            let text = before_null(&rest[TEXT_LENGTH..TEXT_LENGTH + length])?;
+            Some(found(TEXT_LENGTH + length, text))
         }
     }
 }

@@ -14,17 +14,6 @@ pub struct HeadValues {
     pub poss_resend: u8,
 }
 
-/// 12 before 11: a message above 4,096 has no right length at all.
-fn check_room(length: usize, room: usize) -> Result<(), Refusal> {
-    if length > MOST {
-        return Err(refuse(TOO_LONG, 0));
-    }
-    if length > room {
-        return Err(refuse(NO_ROOM, length));
-    }
-    Ok(())
-}
-
 /// Refusals 5 and 6. The Comp ID comes as its characters, without a null.
 fn check_head(head: &HeadValues, comp_id: &[u8]) -> Result<(), Refusal> {
     if head.message_type > types::LAST {
@@ -60,7 +49,7 @@ fn plain_body(fields: &[Found]) -> Vec<u8> {
 }
 
 /// Writes a message in plain form at the front of `out` and gives its length.
-/// Refusals 5 to 10, then 12, then 11; a refusal leaves `out` as it was.
+/// Refusals 5 to 10, then 11; a refusal leaves `out` as it was.
 pub fn write(
     head: &HeadValues,
     comp_id: &[u8],
@@ -71,8 +60,8 @@ pub fn write(
     check_head(head, comp_id)?;
     let fields = walk(head.message_type, map, body)?;
     let body = plain_body(&fields);
+    // Length holds it: what passed the walk is no longer than `tables::longest`.
     let length = BODY_AT + body.len() + TRAILER;
-    check_room(length, out.len())?;
 
     let mut message = vec![START];
     message.extend_from_slice(&(length as u16).to_le_bytes());
@@ -86,8 +75,7 @@ pub fn write(
     message.extend_from_slice(&body);
     let sum = crc32c(&message);
     message.extend_from_slice(&sum.to_le_bytes());
-    out[..length].copy_from_slice(&message);
-    Ok(length)
+    put(&message, out)
 }
 
 /// Lays bytes at the front of a slice; 11 with the length needed.
@@ -224,24 +212,4 @@ pub fn gap_fill(first: u32, comp_id: &[u8], new: u32) -> Result<Vec<u8>, Refusal
     let mut body = vec![b'Y'];
     body.extend_from_slice(&new.to_le_bytes());
     sent(head, comp_id, &[0, 1], &body)
-}
-
-#[cfg(test)]
-mod tests {
-    use super::*;
-
-    /// No type's tables reach 4,096, so 12 can be shown only here.
-    #[test]
-    fn too_long_comes_before_no_room() {
-        assert_eq!(check_room(4096, 4096), Ok(()));
-        assert_eq!(check_room(4097, 0), Err(refuse(12, 0)));
-        assert_eq!(check_room(4096, 4095), Err(refuse(11, 4096)));
-        for message_type in 0..=types::LAST {
-            let most: usize = (0..256)
-                .filter_map(|position| tables::find(message_type, position))
-                .map(|entry| entry.field.width + 2)
-                .sum();
-            assert!(LEAST + most < MOST);
-        }
-    }
 }

@@ -130,17 +130,12 @@ module _ (x : Outgoing) (compId : List ℕ) (n : ℕ) (w : (z : List ℕ) → n 
   shown true = refl
   shown false = refl
 
-  within : (room : ℕ) → writeLength n room ≡ cond (leb n room) (Wrote n) (Refused (NoRoom n))
-  unfolding writeLength
-  within room = rw (le-leb n 4096 (lengthy .most))
-
   pub sent-by-room : (d : List ℕ) → shownWritten (sendOf x compId d) ≡ byRoom n (length d)
-  unfolding sendOf writeOf writeVetted byRoom
+  unfolding sendOf writeOf writeVetted writeLength byRoom
   sent-by-room d =
       let g = lengthy in
       ap (λ (v : Vetted). shownWritten (writeVetted (length d) v)) (g .good)
       ∙ ap (λ (k : ℕ). shownWritten (writeLength k (length d))) (sym (g .size))
-      ∙ ap shownWritten (within (length d))
       ∙ shown (leb n (length d))
 
 -- a session that passes has a good Comp ID

@@ -4,8 +4,8 @@ use mathlib.Core.Bool.{cond}
 use lib.Dec.{eqb, leb}
 use Rattle.tables.specs.declared.dictionary.Field.the-variants.{Password}
 use Rattle.tables.specs.Dictionary.{sortOf, widthOf}
+use Rattle.tables.specs.Longest.{frameBytes}
 use Rattle.message.specs.declared.refusal.Refusal.the-variants.{NoRoom}
-use Rattle.message.specs.Frame.{frameBytes}
 use Rattle.message.specs.Refusal.{numberOf}
 use Rattle.session.specs.State.{sendNone, sendHeartbeat, sendLogout, sendGapFill}
 use Rattle.capi.specs.declared.shape.CWritten.{CWritten}

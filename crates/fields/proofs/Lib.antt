@@ -1,10 +1,13 @@
 pub mod BufferLaws
+pub mod BytesLaws
 pub mod CheckLaws
 pub mod CopyLaws
 pub mod CutLaws
 pub mod CutWorked
 pub mod FillLaws
+pub mod FullLaws
 pub mod HeadLaws
+pub mod MostLaws
 pub mod PlainLaws
 pub mod PositionLaws
 pub mod SetsLaws

@@ -1,10 +1,11 @@
-// Prints the layout sheet from the proved tables: a line for each position of each message type, and then for each position of
-// each of the nine tables of an Execution Report.
+// Prints the layout sheet from the proved tables: for each message type a line with the longest length of its messages and
+// one for each position, and then a line for each position of each of the nine tables of an Execution Report.
 use libc::STDOUT_FILENO;
 use names::put_name;
 use tables::dictionary::Field;
 use tables::dictionary::Sort;
 use tables::dictionary::sort_of;
+use tables::longest::longest_of;
 use tables::nine::nine_row;
 use tables::table::EXECUTION_REPORT;
 use tables::table::Row;
@@ -81,13 +82,26 @@ fn say_row(messagetype: u8, position: usize) {
     );
 }
 
-fn say_type(messagetype: u8) {
+fn say_longest(messagetype: u8) {
+    say(b"type=");
+    say_number(messagetype as usize);
+    say(b" longest=");
+    say_number(longest_of(messagetype));
+    say(b"\n");
+}
+
+fn say_positions(messagetype: u8) {
     let span = span_of(messagetype);
     let mut position = 0;
     while position < span {
         say_row(messagetype, position);
         position += 1;
     }
+}
+
+fn say_type(messagetype: u8) {
+    say_longest(messagetype);
+    say_positions(messagetype);
 }
 
 // The table of 004 section 7.8.k, k being `table`.

@@ -73,6 +73,27 @@ pub no-type : (t p : ℕ) → isType t ≡ false → rowOf t p ≡ UnknownType
 unfolding isType rowOf
 no-type t p e = no-row (tablesOf t) p e
 
+-- what holds of each type's tables, and of none, holds of the tables of any type
+pub of-tables : (P : List (List Line) → Type 0) → P (heartbeat ∷ []) → P (testRequest ∷ []) → P (resendRequest ∷ []) → P (reject ∷ [])
+    → P (sequenceReset ∷ []) → P (logon ∷ []) → P (logout ∷ []) → P (lookupRequest ∷ []) → P (lookupResponse ∷ [])
+    → P (businessMessageReject ∷ []) → P nineTables → P [] → (t : ℕ) → P (tablesOf t)
+unfolding tablesOf
+of-tables P p0 p1 p2 p3 p4 p5 p6 p7 p8 p9 p10 none t =
+    or (eqb t 0) p0
+    (or (eqb t 1) p1
+    (or (eqb t 2) p2
+    (or (eqb t 3) p3
+    (or (eqb t 4) p4
+    (or (eqb t 5) p5
+    (or (eqb t 6) p6
+    (or (eqb t 7) p7
+    (or (eqb t 8) p8
+    (or (eqb t 9) p9
+    (or (eqb t 10) p10 none))))))))))
+  where
+    or : (b : Bool) {x y : List (List Line)} → P x → P y → P (cond b x y)
+    or b p q = either P b (λ e. p) (λ e. q)
+
 -- whether a row is one of some table
 unfoldable pub hasTable : Row → Bool
 hasTable (Required f) = true
@@ -83,21 +104,7 @@ hasTable UnknownType = false
 abbrev Tells : List (List Line) → Type 0
 Tells ts = hasTable (unionAt ts 0) ≡ leb 1 (length ts)
 
-tells-one : (b : Bool) (x y : List (List Line)) → Tells x → Tells y → Tells (cond b x y)
-tells-one b x y p q = either Tells b (λ t. p) (λ t. q)
-
 -- the row at position 0 tells whether the type has a table
 pub row-tells : (t : ℕ) → hasTable (rowOf t 0) ≡ isType t
-unfolding rowOf isType tablesOf unionAt rowAt isRequired hasTable heartbeat testRequest resendRequest reject sequenceReset logon logout lookupRequest lookupResponse businessMessageReject nineTables reports addLine column joined notRequired
-row-tells t =
-    tells-one (eqb t 0) _ _ refl
-    (tells-one (eqb t 1) _ _ refl
-    (tells-one (eqb t 2) _ _ refl
-    (tells-one (eqb t 3) _ _ refl
-    (tells-one (eqb t 4) _ _ refl
-    (tells-one (eqb t 5) _ _ refl
-    (tells-one (eqb t 6) _ _ refl
-    (tells-one (eqb t 7) _ _ refl
-    (tells-one (eqb t 8) _ _ refl
-    (tells-one (eqb t 9) _ _ refl
-    (tells-one (eqb t 10) _ _ refl refl))))))))))
+unfolding rowOf isType unionAt rowAt isRequired hasTable heartbeat testRequest resendRequest reject sequenceReset logon logout lookupRequest lookupResponse businessMessageReject nineTables reports addLine column joined notRequired
+row-tells t = of-tables Tells refl refl refl refl refl refl refl refl refl refl refl refl t

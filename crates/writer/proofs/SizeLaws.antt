@@ -1,7 +1,7 @@
 -- The messages that the recorder sends are good, and in how many bytes each is written: their maps, their known and required sets and
 -- their bodies by computing, whatever the numbers in them.
 use mathlib.Core.Path.{_≡_, refl, ap, _∙_}
-use Prim.Native.Nat.{ℕ, zero, suc, _+_, _-_, _/_, _%_, _≤_}
+use Prim.Native.Nat.{ℕ, suc, _+_, _-_, _/_, _%_, _≤_}
 use native.Mathlib.Nat.{le-of-lt}
 use native.Mathlib.Omega.{arith}
 use mathlib.Core.Bool.{true, false}
@@ -32,6 +32,7 @@ use Rattle.fields.specs.Check.{checkRow, checkSort, fixed, fixedTaken, whole, y
 use Rattle.fields.specs.Sets.{positionOf, standsAt, isRowOf, lowest, placeOf, lowestUnknown, lowestMissing, unknownAt, unknownTo, missingAt}
 use Rattle.fields.specs.Cut.{positions, extent, extentOf, cutAt, cut}
 use Rattle.fields.specs.Walk.{onward, walkThrough, walkOf}
+use Rattle.fields.proofs.BytesLaws.{no-byte}
 use Rattle.fields.proofs.PositionLaws.{later-skip, later-end, positions-split}
 use Rattle.fields.proofs.WalkLaws.{walkFrom, walk-on}
 use Rattle.message.specs.declared.vet.Vetted.the-variants as vetted
@@ -43,11 +44,6 @@ use Rattle.writer.specs.Write.{writeOf, writeVetted, writeLength}
 -- a map whose fields stand in its first byte
 abbrev pub mapOf : ℕ → List ℕ
 mapOf b = b ∷ replicate 31 0
-
-no-byte : (n i : ℕ) → _≡_ {A = ℕ} (getD (replicate n 0) i 0) 0
-no-byte zero i = refl
-no-byte (suc n) zero = refl
-no-byte (suc n) (suc i) = no-byte n i
 
 module _ (b : ℕ) where
   behind-clear : (p : ℕ) → 8 ≤ p → present (mapOf b) p ≡ false
@@ -74,7 +70,6 @@ pub record Complete (x : Outgoing) (b plain : ℕ) : Type 0 where
   pub known : lowestUnknown (rowOf (x .head .messagetype)) (mapOf b) ≡ Nowhere
   pub filled : lowestMissing (rowOf (x .head .messagetype)) (mapOf b) ≡ Nowhere
   pub walked : walkFrom (rowOf (x .head .messagetype)) (positions (mapOf b) 8 0) 0 (x .body) ≡ Done 0 plain
-  pub short : plain ≤ 4038
 
 module _ {x : Outgoing} {b plain : ℕ} (c : Complete x b plain) where
   complete-fields : vetFields (rowOf (x .head .messagetype)) (x .map) (x .body) ≡ vetted.Good plain
@@ -86,7 +81,6 @@ module _ {x : Outgoing} {b plain : ℕ} (c : Complete x b plain) where
       → sendOf x compId d ≡ Wrote (58 + plain)
   unfolding sendOf writeOf writeVetted writeLength vet goodHeader
   complete-sent compId d h g r =
-      let s : 58 + plain ≤ 4096 = omega (arith, c .short) in
       rw (
         within-is-type (x .head .messagetype) (c .messagetype),
         le-leb 1 (x .head .number) h,
@@ -94,7 +88,6 @@ module _ {x : Outgoing} {b plain : ℕ} (c : Complete x b plain) where
         le-leb (x .head .possresend) 1 (c .possresend),
         g,
         complete-fields,
-        le-leb (58 + plain) 4096 s,
         le-leb (58 + plain) (length d) r,
       )
 
@@ -132,7 +125,7 @@ module _ (number : ℕ) (password : List ℕ) (next : ℕ) where
     pub logon-complete : Complete (logon number password next) 160 454
     unfolding mapWith withPosition withBit bitAt positionOf standsAt isRowOf entry rowNumber firstFrom rowAt rowOf tablesOf unionAt table.logon lowestUnknown lowestMissing lowest placeOf unknownAt unknownTo missingAt isKnown isRequired present sortOf widthOf
     logon-complete =
-        record { messagetype = omega arith; possdup = omega arith; possresend = omega arith; map = refl; known = refl; filled = refl; walked = logon-walk; short = omega arith }
+        record { messagetype = omega arith; possdup = omega arith; possresend = omega arith; map = refl; known = refl; filled = refl; walked = logon-walk }
 
 -- every message but the Logon
 module _ (number : ℕ) where
@@ -145,12 +138,12 @@ module _ (number : ℕ) where
       × Complete (gapFill number new) 192 5
   unfolding mapWith withPosition withBit bitAt positionOf standsAt isRowOf entry rowNumber firstFrom rowAt rowOf tablesOf unionAt table.heartbeat table.testRequest table.resendRequest table.sequenceReset table.logout lowestUnknown lowestMissing lowest placeOf unknownAt unknownTo missingAt isKnown isRequired present walkFrom walkThrough cutAt extentOf extent positions onward checkRow checkSort whole yesNo sortOf numberBytes
   computed id start end new = (
-    record { messagetype = omega arith; possdup = omega arith; possresend = omega arith; map = refl; known = refl; filled = refl; walked = refl; short = omega arith },
-    record { messagetype = omega arith; possdup = omega arith; possresend = omega arith; map = refl; known = refl; filled = refl; walked = refl; short = omega arith },
-    record { messagetype = omega arith; possdup = omega arith; possresend = omega arith; map = refl; known = refl; filled = refl; walked = refl; short = omega arith },
-    record { messagetype = omega arith; possdup = omega arith; possresend = omega arith; map = refl; known = refl; filled = refl; walked = refl; short = omega arith },
-    record { messagetype = omega arith; possdup = omega arith; possresend = omega arith; map = refl; known = refl; filled = refl; walked = refl; short = omega arith },
-    record { messagetype = omega arith; possdup = omega arith; possresend = omega arith; map = refl; known = refl; filled = refl; walked = refl; short = omega arith },
+    record { messagetype = omega arith; possdup = omega arith; possresend = omega arith; map = refl; known = refl; filled = refl; walked = refl },
+    record { messagetype = omega arith; possdup = omega arith; possresend = omega arith; map = refl; known = refl; filled = refl; walked = refl },
+    record { messagetype = omega arith; possdup = omega arith; possresend = omega arith; map = refl; known = refl; filled = refl; walked = refl },
+    record { messagetype = omega arith; possdup = omega arith; possresend = omega arith; map = refl; known = refl; filled = refl; walked = refl },
+    record { messagetype = omega arith; possdup = omega arith; possresend = omega arith; map = refl; known = refl; filled = refl; walked = refl },
+    record { messagetype = omega arith; possdup = omega arith; possresend = omega arith; map = refl; known = refl; filled = refl; walked = refl },
   )
 
 -- the map of a Resend Request: C0 and zeros

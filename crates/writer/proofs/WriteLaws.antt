@@ -13,15 +13,13 @@ use Rattle.wire.specs.Laying.{laid}
 use Rattle.wire.specs.Number.{numberBytes}
 use Rattle.wire.specs.Text.{takes}
 use Rattle.wire.proofs.NumberLaws.{length-numberBytes}
-use Rattle.fields.specs.declared.walk.Walked.the-variants.{Done}
 use Rattle.tables.specs.Tables.{rowOf}
 use Rattle.fields.specs.Plain.{plainFields}
-use Rattle.fields.specs.Walk.{walkOf}
 use Rattle.fields.specs.Words.{ClearFrom}
 use Rattle.wire.proofs.TestLaws.{rest-of}
 use Rattle.message.specs.declared.frame.Header.{Header}
 use Rattle.message.specs.declared.refusal.Refusal.{Refusal}
-use Rattle.message.specs.declared.refusal.Refusal.the-variants.{NoRoom, TooLong}
+use Rattle.message.specs.declared.refusal.Refusal.the-variants.{NoRoom}
 use Rattle.message.specs.declared.vet.Vetted.{Vetted}
 use Rattle.message.specs.declared.vet.Vetted.the-variants as vetted
 use Rattle.message.specs.Vet.{goodCompId, goodHeader, vet}
@@ -141,27 +139,16 @@ module _ (h : Header) (compId m body d : List ℕ) where
         let f : a ≡ writeOf h compId m body d = e ∙ sym by-length in
         (f, q ∙ ap (λ (y : Written). afterWriting y (plainMessage h compId m body) d) f)
 
-    pub write-long : 4038 < plain → (Refused TooLong ≡ writeOf h compId m body d) × (d ≡ written h compId m body d)
+    pub write-full : length d < 58 + plain → (Refused (NoRoom (58 + plain)) ≡ writeOf h compId m body d) × (d ≡ written h compId m body d)
     unfolding writeLength afterWriting
-    write-long i =
-        let j : 4096 < 58 + plain = omega arith in
-        answered (Refused TooLong) (rw (lt-leb (58 + plain) 4096 j)) d refl
+    write-full r = answered (Refused (NoRoom (58 + plain))) (rw (lt-leb (58 + plain) (length d) r)) d refl
 
-    module _ (i : plain ≤ 4038) where
-      short : 58 + plain ≤ 4096
-      short = omega arith
-
-      pub write-full : length d < 58 + plain → (Refused (NoRoom (58 + plain)) ≡ writeOf h compId m body d) × (d ≡ written h compId m body d)
-      unfolding writeLength afterWriting
-      write-full r =
-          answered (Refused (NoRoom (58 + plain))) (rw (le-leb (58 + plain) 4096 short, lt-leb (58 + plain) (length d) r)) d refl
-
-      pub write-done : length m ≡ 32 → 58 + plain ≤ length d → (x : List ℕ) → x ≡ laid (plainMessage h compId m body) d
-          → (Wrote (58 + plain) ≡ writeOf h compId m body d) × (x ≡ written h compId m body d)
-      unfolding writeLength afterWriting plainMessage
-      write-done l r x q =
-          let n : length (plainMessage h compId m body) ≡ 58 + plain =
-          length-message h compId m (plainFields (rowOf (h .messagetype)) m body) vetted-text l ∙ ap (λ (k : ℕ). 58 + k) vetted-length in
-          answered (Wrote (58 + plain)) (rw (le-leb (58 + plain) 4096 short, le-leb (58 + plain) (length d) r)) x
-          (q ∙ laid-there (plainMessage h compId m body) d (omega arith)
-          ∙ ap (λ (k : ℕ). plainMessage h compId m body ++ drop k d) n)
+    pub write-done : length m ≡ 32 → 58 + plain ≤ length d → (x : List ℕ) → x ≡ laid (plainMessage h compId m body) d
+        → (Wrote (58 + plain) ≡ writeOf h compId m body d) × (x ≡ written h compId m body d)
+    unfolding writeLength afterWriting plainMessage
+    write-done l r x q =
+        let n : length (plainMessage h compId m body) ≡ 58 + plain =
+        length-message h compId m (plainFields (rowOf (h .messagetype)) m body) vetted-text l ∙ ap (λ (k : ℕ). 58 + k) vetted-length in
+        answered (Wrote (58 + plain)) (rw (le-leb (58 + plain) (length d) r)) x
+        (q ∙ laid-there (plainMessage h compId m body) d (omega arith)
+        ∙ ap (λ (k : ℕ). plainMessage h compId m body ++ drop k d) n)

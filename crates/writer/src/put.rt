@@ -32,6 +32,7 @@ ghost use mathlib.Core.Path.{_≡_};
 ghost use mathlib.Core.Bool.{true};
 ghost use Prim.Native.Nat.{_-_, _≤_};
 ghost use lib.ListN.{length, take};
+ghost use Rattle.tables.specs.Longest.{frameBytes};
 ghost use Rattle.tables.specs.Tables.{rowOf};
 ghost use Rattle.wire.specs.Laying.{laid};
 ghost use Rattle.wire.specs.Map.{mapBytes};
@@ -39,7 +40,7 @@ ghost use Rattle.wire.specs.Text.{takes};
 ghost use Rattle.fields.specs.Cut.{headPositions};
 ghost use Rattle.fields.specs.Plain.{plainFields};
 ghost use Rattle.fields.specs.Words.{ClearFrom};
-ghost use Rattle.message.specs.Frame.{compIdAt, bodyAt, compIdBytes, sumBytes, frameBytes};
+ghost use Rattle.message.specs.Frame.{compIdAt, bodyAt, compIdBytes, sumBytes};
 ghost use Rattle.writer.specs.Plain.{headBytes, sealed};
 ghost use Rattle.writer.specs.Put.{valueBytes};
 

@@ -14,7 +14,7 @@ use std::fmt::{Debug, Formatter};
 use std::io::Write;
 use std::process::{exit, Command, Stdio};
 use std::time::{Duration, Instant};
-use twin::make::{self, Event, Rng};
+use twin::make::{self, Event, Rng, ToWrite};
 use twin::reader::{self, Head, A_FIELD};
 use twin::reports::LIST;
 use twin::session::{self, Ended, Phase, RowSort, A_ROW, A_SEND, LAST, NOT_A_SEND};
@@ -556,13 +556,6 @@ fn list_room(rng: &mut Rng, bytes: &[u8]) -> usize {
     rooms[rng.index(rooms.len())]
 }
 
-struct ToWrite {
-    head: HeadValues,
-    comp_id: Vec<u8>,
-    map: [u8; MAP_WIDTH],
-    body: Vec<u8>,
-}
-
 fn hold_write(tally: &mut Tally, given: &ToWrite, room: usize) {
     let ToWrite {
         head,
@@ -740,17 +733,23 @@ fn to_write(bytes: &[u8]) -> Option<ToWrite> {
     })
 }
 
+/// What the twin writes; nothing where it refuses.
+fn written_bytes(given: &ToWrite) -> Vec<u8> {
+    let ToWrite {
+        head,
+        comp_id,
+        map,
+        body,
+    } = given;
+    let mut out = vec![0; wire::MOST];
+    let length = writer::write(head, comp_id, map, body, &mut out).unwrap_or(0);
+    out.truncate(length);
+    out
+}
+
 /// The length of what the twin writes; 0 where it refuses.
 fn written_length(given: &ToWrite) -> usize {
-    let mut out = [0; wire::MOST];
-    writer::write(
-        &given.head,
-        &given.comp_id,
-        &given.map,
-        &given.body,
-        &mut out,
-    )
-    .unwrap_or(0)
+    written_bytes(given).len()
 }
 
 fn valid_messages(tally: &mut Tally, rng: &mut Rng, until: u64) {
@@ -787,7 +786,39 @@ fn valid_messages(tally: &mut Tally, rng: &mut Rng, until: u64) {
 
 // ---- Writes, good and bad ----
 
+/// The longest message of every type, and it with each text in turn a character
+/// shorter and a character too long, into rooms on both sides of the longest
+/// length. What is written is read again.
+fn every_longest(tally: &mut Tally) {
+    assert_eq!(
+        proved::LONGEST_WRITTEN,
+        tables::longest_of_all(),
+        "the header's longest length is that of the tables"
+    );
+    for message_type in 0..=types::LAST {
+        let mut all = vec![make::longest(message_type)];
+        for text in make::texts(message_type) {
+            all.push(make::one_shorter(message_type, text));
+            all.push(make::one_too_long(message_type, text));
+        }
+        let length = tables::longest(message_type);
+        for given in &all {
+            for room in [length - 1, length, proved::LONGEST_WRITTEN] {
+                hold_write(tally, given, room);
+            }
+            let bytes = written_bytes(given);
+            if !bytes.is_empty() {
+                hold_read(tally, &bytes);
+                hold_parts(tally, &bytes);
+                hold_fields(tally, &bytes, LIST);
+            }
+        }
+    }
+}
+
 fn writes(tally: &mut Tally, rng: &mut Rng, until: u64) {
+    every_longest(tally);
+    let until = tally.count() + until;
     while tally.count() < until {
         let comp_id = make::comp_id(rng);
         let number = message_number(rng);

@@ -1,4 +1,4 @@
--- `writer::write::put_message` meets its contract: by the length the answer is TooLong, NoRoom, or the message, laid in three goes.
+-- `writer::write::put_message` meets its contract: by the room the answer is NoRoom, or the message, laid in three goes.
 use mathlib.Core.Path.{_≡_, sym, ap}
 use Prim.Native.Nat.{ℕ, _+_}
 use native.Mathlib.Omega.{arith}
@@ -6,30 +6,30 @@ use lib.ListN.{length}
 use borrow.Author.Needs.{needs}
 use Rattle.tables.specs.Tables.{rowOf}
 use Rattle.fields.specs.Plain.{plainFields}
+use Rattle.message.proofs.LongestLaws.{never-long}
 use Rattle.writer.specs.Plain.{plainMessage}
-use Rattle.writer.proofs.WriteLaws.{vetted-text, vetted-low, vetted-length, vetted-room, message-laid, write-long, write-full, write-done}
+use Rattle.writer.proofs.WriteLaws.{vetted-text, vetted-low, vetted-length, vetted-room, message-laid, write-full, write-done}
 use Rattle.writer.proofs.write.put_message.Statement.{statement}
 use Rattle.writer.proofs.write.put_message.Tie as tie
+
+add-n : tie.Need-add-n
+add-n c =
+    let a = c .before .before .before .before in
+    omega (arith, never-long (a .args .header) (a .args .comp .now) (a .args .map .now) (a .args .body .now) (a .args .plain) (a .pre .1))
 
 returns : tie.Need-returns
 returns c =
     let a = c .before .before .before .before .before in
-    write-long (a .args .header) (a .args .comp .now) (a .args .map .now) (a .args .body .now) (a .args .d .now) (a .args .plain) (a .pre .1) (c .if1 .taken)
-
-add-n : tie.Need-add-n
-add-n c = search needs
-
-returns-2 : tie.Need-returns-2
-returns-2 c =
-    let a = c .before .before .before .before .before .before in
-    write-full (a .args .header) (a .args .comp .now) (a .args .map .now) (a .args .body .now) (a .args .d .now) (a .args .plain) (a .pre .1) (omega arith) (c .if2 .taken)
+    write-full (a .args .header) (a .args .comp .now) (a .args .map .now) (a .args .body .now) (a .args .d .now) (a .args .plain) (a .pre .1) (c .if1 .taken)
 
 cast-put-head : tie.Need-cast-put-head
-cast-put-head c = search needs
+cast-put-head c =
+    let a = c .before .before .before .before .before .before in
+    omega (arith, never-long (a .args .header) (a .args .comp .now) (a .args .map .now) (a .args .body .now) (a .args .plain) (a .pre .1))
 
 put-head-requires : tie.Need-put-head-requires
 put-head-requires c κs =
-    let a = c .before .before .before .before .before .before .before in
+    let a = c .before .before .before .before .before .before in
     (omega arith, vetted-text (a .args .header) (a .args .comp .now) (a .args .map .now) (a .args .body .now) (a .args .d .now) (a .args .plain) (a .pre .1), a .pre .0)
 
 sub-put-fields : tie.Need-sub-put-fields
@@ -43,7 +43,7 @@ part-put-fields-end c = search needs
 
 put-fields-requires : tie.Need-put-fields-requires
 put-fields-requires c κs =
-    let a = c .before .before .before .before .before .before .before .before .before .before .before in
+    let a = c .before .before .before .before .before .before .before .before .before .before in
     let x = c .before .before .before .put-head in (
       (omega arith, vetted-low (a .args .header) (a .args .comp .now) (a .args .map .now) (a .args .body .now) (a .args .d .now) (a .args .plain) (a .pre .1)),
       vetted-room (a .args .header) (a .args .comp .now) (a .args .map .now) (a .args .body .now) (a .args .d .now) (a .args .plain) (a .pre .1) (x .last .0) (omega (arith, x .kept .0)),
@@ -55,16 +55,16 @@ put-sum-requires c κs = search needs
 same-length : tie.Need-same-length
 same-length c = search needs
 
-returns-3 : tie.Need-returns-3
+returns-2 : tie.Need-returns-2
 unfolding plainMessage
-returns-3 c =
-    let a = c .before .before .before .before .before .before .before .before .before .before .before .before .before .before .before .before .before .before in
+returns-2 c =
+    let a = c .before .before .before .before .before .before .before .before .before .before .before .before .before .before .before .before .before in
     let h = a .args .header in
     let m = a .args .map .now in
     let p = plainFields (rowOf (h .messagetype)) m (a .args .body .now) in
     let n = 58 + a .args .plain in
     let e : n ≡ 58 + length p = ap (λ (k : ℕ). 58 + k) (sym (vetted-length (a .args .header) (a .args .comp .now) (a .args .map .now) (a .args .body .now) (a .args .d .now) (a .args .plain) (a .pre .1))) in
-    write-done (a .args .header) (a .args .comp .now) (a .args .map .now) (a .args .body .now) (a .args .d .now) (a .args .plain) (a .pre .1) (omega arith) (a .pre .0) (omega arith) _
+    write-done (a .args .header) (a .args .comp .now) (a .args .map .now) (a .args .body .now) (a .args .d .now) (a .args .plain) (a .pre .1) (a .pre .0) (omega arith) _
     (message-laid h (a .args .comp .now) m p (vetted-text (a .args .header) (a .args .comp .now) (a .args .map .now) (a .args .body .now) (a .args .d .now) (a .args .plain) (a .pre .1)) (a .pre .0) n (a .args .d .now) _ _ _ e (omega arith)
     (c .before .before .before .before .before .before .before .before .before .before .put-head .ensures) (c .before .before .before .before .before .before .put-fields .ensures) (c .before .before .put-sum .ensures))
 
@@ -72,9 +72,8 @@ pub put-message-spec : {M : Type 1} → statement M
 put-message-spec =
     tie.close
     (tie.spec
-    returns
     add-n
-    returns-2
+    returns
     cast-put-head
     put-head-requires
     sub-put-fields
@@ -83,4 +82,4 @@ put-message-spec =
     put-fields-requires
     put-sum-requires
     same-length
-    returns-3)
+    returns-2)

@@ -1,8 +1,8 @@
--- `layoutsheet::say_type` meets its contract: it ends, since fewer positions are left after each line. Assumes nothing.
+-- `layoutsheet::say_positions` meets its contract: it ends, since fewer positions are left after each line. Assumes nothing.
 use Prim.Native.Nat.{_-_}
 use borrow.Author.Needs.{needs}
-use Rattle.layoutsheet.proofs.say_type.Statement.{statement}
-use Rattle.layoutsheet.proofs.say_type.Tie as tie
+use Rattle.layoutsheet.proofs.say_positions.Statement.{statement}
+use Rattle.layoutsheet.proofs.say_positions.Tie as tie
 
 abbrev Inv-loop : tie.InvT-loop
 Inv-loop messagetype span position₀ position = Unit
@@ -31,8 +31,8 @@ loop-again c = search needs
 returns : tie.Need-returns Inv-loop μ-loop
 returns c = search needs
 
-pub say-type-spec : {M : Type 1} → statement M
-say-type-spec =
+pub say-positions-spec : {M : Type 1} → statement M
+say-positions-spec =
     tie.close
     (tie.spec
     Inv-loop
