@@ -7,7 +7,7 @@ use crate::crc::crc32c;
 use crate::session::{self, Phase, Session, LAST};
 use crate::tables::{self, types, Field, Sort};
 use crate::wire::{set, BODY_AT, COMP_ID_WIDTH, LEAST, MAP_WIDTH, MOST, START, TRAILER};
-use crate::writer::HeadValues;
+use crate::writer::{HeadValues, ToWrite};
 
 /// splitmix64.
 #[derive(Clone, Debug)]
@@ -232,16 +232,6 @@ pub fn comp_id(rng: &mut Rng) -> Vec<u8> {
     }
 }
 
-/// What a writer is given.
-#[derive(Clone, Debug)]
-pub struct ToWrite {
-    pub head: HeadValues,
-    /// Characters, without a null.
-    pub comp_id: Vec<u8>,
-    pub map: [u8; MAP_WIDTH],
-    pub body: Vec<u8>,
-}
-
 /// One of the texts of a message.
 #[derive(Clone, Copy, Debug, PartialEq, Eq)]
 pub enum Text {
@@ -262,7 +252,7 @@ impl Text {
 
 /// The fields that a type knows, in rising position.
 fn known(message_type: u8) -> impl Iterator<Item = (usize, Field)> {
-    (0..256).filter_map(move |position| {
+    (0..8 * MAP_WIDTH).filter_map(move |position| {
         tables::find(message_type, position).map(|entry| (position, entry.field))
     })
 }

@@ -1,5 +1,5 @@
 use crate::daysheet::daysheet;
-use crate::make::{self, Event, Given, Rng, Text, ToWrite};
+use crate::make::{self, Event, Given, Rng, Text};
 use crate::plan::plan;
 use crate::reader::{self, Value, A_FIELD};
 use crate::reports::LIST;
@@ -9,7 +9,7 @@ use crate::session::{
 };
 use crate::tables::{self, types, Sort};
 use crate::wire::{self, is_set, refuse, set, Refusal, LEAST, MAP_WIDTH, MOST};
-use crate::writer::{self, HeadValues};
+use crate::writer::{self, HeadValues, ToWrite};
 use crate::{crc, plain};
 
 const US: &[u8] = b"RECORDER01";
@@ -685,15 +685,10 @@ fn every_type_there_and_back() {
 /// What is written into a buffer with so much room. The plain side must do the
 /// same, and both must leave alone what stands behind, and on a refusal all.
 fn written_with(given: &ToWrite, room: usize) -> Result<Vec<u8>, Refusal> {
-    let ToWrite {
-        head,
-        comp_id,
-        map,
-        body,
-    } = given;
     let (mut out, mut fast) = ([0xEE; MOST], [0xEE; MOST]);
-    let answer = writer::write(head, comp_id, map, body, &mut out[..room]);
-    let plain = plain::write(head, comp_id, map, body, &mut fast[..room]);
+    let answer = given.write(&mut out[..room]);
+    let (id, body) = (&given.comp_id, &given.body);
+    let plain = plain::write(&given.head, id, &given.map, body, &mut fast[..room]);
     assert_eq!(plain, answer, "{:?}", given);
     assert_eq!(fast, out, "{:?}", given);
     let length = answer.unwrap_or(0);

@@ -14,6 +14,22 @@ pub struct HeadValues {
     pub poss_resend: u8,
 }
 
+/// All that a message is written from.
+#[derive(Clone, Debug)]
+pub struct ToWrite {
+    pub head: HeadValues,
+    /// Characters, without a null.
+    pub comp_id: Vec<u8>,
+    pub map: [u8; MAP_WIDTH],
+    pub body: Vec<u8>,
+}
+
+impl ToWrite {
+    pub fn write(&self, out: &mut [u8]) -> Result<usize, Refusal> {
+        write(&self.head, &self.comp_id, &self.map, &self.body, out)
+    }
+}
+
 /// Refusals 5 and 6. The Comp ID comes as its characters, without a null.
 fn check_head(head: &HeadValues, comp_id: &[u8]) -> Result<(), Refusal> {
     if head.message_type > types::LAST {

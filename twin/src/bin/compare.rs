@@ -14,14 +14,14 @@ use std::fmt::{Debug, Formatter};
 use std::io::Write;
 use std::process::{exit, Command, Stdio};
 use std::time::{Duration, Instant};
-use twin::make::{self, Event, Rng, ToWrite};
+use twin::make::{self, Event, Rng};
 use twin::reader::{self, Head, A_FIELD};
 use twin::reports::LIST;
 use twin::session::{self, Ended, Phase, RowSort, A_ROW, A_SEND, LAST, NOT_A_SEND};
 use twin::session::{LAST_KIND, ROWS_A_STEP, ROW_PLACE, SENDS_A_STEP};
 use twin::tables::{self, types};
 use twin::wire::{self, Refusal, BODY_AT, MAP_WIDTH, TRAILER};
-use twin::writer::{self, HeadValues};
+use twin::writer::{self, HeadValues, ToWrite};
 use twin::{crc, daysheet, plain, plan};
 
 const NOT_A_SESSION: u32 = 90;
@@ -567,7 +567,7 @@ fn hold_write(tally: &mut Tally, given: &ToWrite, room: usize) {
     hold_written(
         tally,
         room,
-        |out| written(writer::write(head, comp_id, map, body, out)),
+        |out| written(given.write(out)),
         |out| proved::write(out, header, comp_id, map, body),
         || {
             format!(
@@ -735,14 +735,8 @@ fn to_write(bytes: &[u8]) -> Option<ToWrite> {
 
 /// What the twin writes; nothing where it refuses.
 fn written_bytes(given: &ToWrite) -> Vec<u8> {
-    let ToWrite {
-        head,
-        comp_id,
-        map,
-        body,
-    } = given;
     let mut out = vec![0; wire::MOST];
-    let length = writer::write(head, comp_id, map, body, &mut out).unwrap_or(0);
+    let length = given.write(&mut out).unwrap_or(0);
     out.truncate(length);
     out
 }
