@@ -31,7 +31,7 @@ extern "C" {
  * the two before any other call: where they differ, structs and functions may differ as well.
  */
 #define FEATHERLOOM_VERSION_MAJOR 3
-#define FEATHERLOOM_VERSION_MINOR 0
+#define FEATHERLOOM_VERSION_MINOR 1
 #define FEATHERLOOM_VERSION_PATCH 0
 #define FEATHERLOOM_VERSION \
     (10000 * FEATHERLOOM_VERSION_MAJOR + 100 * FEATHERLOOM_VERSION_MINOR + FEATHERLOOM_VERSION_PATCH)
@@ -220,7 +220,11 @@ featherloom_part featherloom_body(const uint8_t *bytes, size_t count);
 /* The number or Decimal at a position: the reader's refusals, then 7, 13, 14. */
 featherloom_value featherloom_ask(const uint8_t *bytes, size_t count, size_t position);
 
-/* The characters of the text at a position, without its null: the reader's refusals, then 7, 13, 14. */
+/*
+ * The characters of the text at a position, without its null: the reader's refusals, then 7, 13, 14. They are bytes from 32 to 126,
+ * and in the fields Text and Reason from 128 to 255 too, handed on as they stand: a program that prints these two must know
+ * what its terminal does with them.
+ */
 featherloom_part featherloom_text(const uint8_t *bytes, size_t count, size_t position);
 
 /*

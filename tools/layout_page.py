@@ -32,17 +32,19 @@ REPORTS = {
     "7.8.8": "Trade (Odd lot/Special lot Order Executed)",
     "7.8.9": "Trade (Semi-auto-matched Trade Cancelled)",
 }
-LINE = re.compile(r"(type|table)=([\d.]+) position=(\d+) name=(.*) sort=(\w+) width=(\d+) required=([YN])")
+LINE = re.compile(r"(type|table)=([\d.]+) position=(\d+) name=(.*) sort=(\w+) width=(\d+) characters=([\w-]+) required=([YN])")
 LONGEST = re.compile(r"type=(\d+) longest=(\d+)")
 
 HEAD = """# The layout sheet
 
-What the proved tables say of each message type, to be laid beside 004. The program `layoutsheet` prints the same lines
-from the tables themselves, and the gate holds this page to what it prints. Names and widths are those of 004 section
-8.2; the width of a variable text is the most that its length may say, null counted. A report's position is required
-where all nine tables of section 7.8 require it; the nine follow at the end, one by one, each with its own positions and
-required marks. The longest message of a type, frame and all, has every position of its tables and each text full: no
-good message of the type is longer, and one of that very length exists. The longest that can be written is a Logon.
+What the proved tables say of each message type, to be laid beside 004. The program `layoutsheet` prints the same
+lines from the tables themselves, and the gate holds this page to what it prints. Names and widths are those of 004
+section 8.2; the width of a variable text is the most that its length may say, null counted. The characters that a
+text is allowed are those from 32 to 126 (ascii), or those from 128 to 255 too (accented). A report's position is
+required where all nine tables of section 7.8 require it; the nine follow at the end, one by one, each with its own
+positions and required marks. The longest message of a type, frame and all, has every position of its tables and each
+text full: no good message of the type is longer, and one of that very length exists. The longest that can be written
+is a Logon.
 """
 
 
@@ -52,13 +54,13 @@ def page(sheet):
         if found := LONGEST.fullmatch(line):
             longest[int(found[1])] = found[2]
             continue
-        word, which, position, name, sort, width, required = LINE.fullmatch(line).groups()
-        row = f"| {position} | {name} | {sort} | {width} | {required} |\n"
+        word, which, position, name, sort, width, characters, required = LINE.fullmatch(line).groups()
+        row = f"| {position} | {name} | {sort} | {width} | {characters} | {required} |\n"
         if word == "type":
             types.setdefault(int(which), []).append(row)
         else:
             tables.setdefault(which, []).append(row)
-    head = "\n\n| Position | Name | Sort | Width | Required |\n|---|---|---|---|---|\n"
+    head = "\n\n| Position | Name | Sort | Width | Characters | Required |\n|---|---|---|---|---|---|\n"
     text = HEAD
     for messagetype, rows in sorted(types.items()):
         title, section = TYPES[messagetype]

@@ -98,13 +98,19 @@ def change(data, lines):
             must(key in ('damaged', 'from', 'refused', 'same'), f'{lines[0][1]}: {key}')
     return bytes(data)
 
+def shown(text):
+    """A text as `worked` prints it: Latin-1, but what would steer a terminal is spelt in hexadecimal, and a backslash doubled."""
+    def one(b):
+        return '\\\\' if b == 92 else f'\\x{b:02X}' if b < 32 or 127 <= b < 160 else chr(b)
+    return ''.join(map(one, text))
+
 def say(kind, position, data, answer):
     """The one place that knows the test program's lines: a question and its answer."""
     ask = kind if position is None else f'{kind} {position}'
     if answer[0] == 'refused':
         reply = f"refused {answer[1]} besides {0 if answer[2] == '-' else answer[2]}" + (' []' if kind == 'text' else '')
     elif answer[0] == 'text':
-        reply = f"text of {len(answer[1])} [{answer[1].decode('ascii')}]"
+        reply = f"text of {len(answer[1])} [{shown(answer[1])}]"
     elif answer[0] == 'plain':
         reply = answer[1].hex()
     else:

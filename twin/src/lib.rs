@@ -1,6 +1,7 @@
-//! A twin of the drop copy recorder, written anew from two papers: document
-//! 01 (the rules) and source document 004 (the layouts). It shares nothing
-//! with the proved code and exists to be held against it.
+//! A twin of the drop copy recorder, written anew from three papers: documents
+//! 01 (the rules) and 02 (what was asked for after them) and source document 004
+//! (the layouts). It shares nothing with the proved code and exists to be held
+//! against it.
 //!
 //! `reader`, `writer`, `session`, `plan` and `daysheet` follow the papers line
 //! by line and care for nothing but clearness. `plain` is a second decoder and

@@ -4,10 +4,13 @@
 //! so that texts may carry bytes after their null.
 
 use crate::crc::crc32c;
+use crate::reader;
 use crate::session::{self, Phase, Session, LAST};
 use crate::tables::{self, types, Field, Sort};
-use crate::wire::{set, BODY_AT, COMP_ID_WIDTH, LEAST, MAP_WIDTH, MOST, START, TRAILER};
+use crate::wire::{self, set, Allowed};
+use crate::wire::{BODY_AT, COMP_ID_WIDTH, LEAST, MAP_AT, MAP_WIDTH, MOST, START, TRAILER};
 use crate::writer::{HeadValues, ToWrite};
+use std::ops::Range;
 
 /// splitmix64.
 #[derive(Clone, Debug)]
@@ -70,22 +73,59 @@ impl Rng {
         }
     }
 
-    /// Characters 32 to 126, often none or as many as there is room for.
-    pub fn text(&mut self, most: usize) -> Vec<u8> {
+    /// Characters of a set, often none or as many as there is room for. Accented
+    /// ones stand alone, among others, seldom or not at all.
+    pub fn text(&mut self, most: usize, allowed: Allowed) -> Vec<u8> {
         let count = match self.below(5) {
             0 => 0,
             1 => most,
             _ => self.index(most + 1),
         };
-        (0..count)
-            .map(|_| match self.below(8) {
-                0 => 32,
-                1 => 126,
-                _ => 32 + self.below(95) as u8,
-            })
-            .collect()
+        match allowed {
+            Allowed::Ascii => (0..count).map(|_| self.ascii()).collect(),
+            Allowed::Accented => {
+                let per = [0, 10, 50, 100][self.index(4)];
+                (0..count).map(|_| self.character(per)).collect()
+            }
+        }
+    }
+
+    /// A character that is an accented one `per` times in a hundred.
+    fn character(&mut self, per: u64) -> u8 {
+        if self.chance(per) {
+            self.accented()
+        } else {
+            self.ascii()
+        }
+    }
+
+    /// A character from 32 to 126, often the first or the last.
+    fn ascii(&mut self) -> u8 {
+        match self.below(8) {
+            0 => 32,
+            1 => 126,
+            _ => 32 + self.below(95) as u8,
+        }
+    }
+
+    /// A character from 128 to 255, often the first or the last.
+    fn accented(&mut self) -> u8 {
+        match self.below(8) {
+            0 => 128,
+            1 => 255,
+            2 => LATIN_1[self.index(LATIN_1.len())],
+            _ => 128 + self.below(128) as u8,
+        }
     }
 }
+
+/// In Latin-1 the last control code, the first byte behind it, and an e with its
+/// accent.
+const LATIN_1: [u8; 3] = [159, 160, 233];
+
+/// Bytes on both sides of every bound of the two sets, and of where Latin-1's
+/// control codes end.
+pub const EDGE_CHARACTERS: [u8; 9] = [31, 32, 126, 127, 128, 159, 160, 254, 255];
 
 /// A fixed text's bytes: the characters, a null, then zeros or anything.
 pub fn fixed_text(rng: &mut Rng, text: &[u8], width: usize) -> Vec<u8> {
@@ -124,12 +164,12 @@ pub fn field(rng: &mut Rng, field: Field) -> Vec<u8> {
         Sort::Number | Sort::Byte | Sort::Decimal => {
             rng.value(field.width).to_le_bytes()[..field.width].to_vec()
         }
-        Sort::Fixed => {
-            let text = rng.text(field.width - 1);
+        Sort::Fixed(allowed) => {
+            let text = rng.text(field.width - 1, allowed);
             fixed_text(rng, &text, field.width)
         }
-        Sort::Variable => {
-            let text = rng.text(field.width - 1);
+        Sort::Variable(allowed) => {
+            let text = rng.text(field.width - 1, allowed);
             variable_text(rng, &text, field.width)
         }
     }
@@ -225,7 +265,7 @@ pub fn message(rng: &mut Rng, message_type: u8, number: u32, comp_id: &[u8]) -> 
 /// A good Comp ID: 1 to 11 characters.
 pub fn comp_id(rng: &mut Rng) -> Vec<u8> {
     loop {
-        let text = rng.text(COMP_ID_WIDTH - 1);
+        let text = rng.text(COMP_ID_WIDTH - 1, Allowed::Ascii);
         if !text.is_empty() {
             return text;
         }
@@ -248,6 +288,14 @@ impl Text {
             Text::At(_, field) => field.width - 1,
         }
     }
+
+    /// The set of its characters.
+    pub fn allowed(self) -> Allowed {
+        match self {
+            Text::CompId => Allowed::Ascii,
+            Text::At(_, field) => field.allowed().expect("every text has a set"),
+        }
+    }
 }
 
 /// The fields that a type knows, in rising position.
@@ -264,9 +312,10 @@ pub fn texts(message_type: u8) -> Vec<Text> {
     std::iter::once(Text::CompId).chain(fields).collect()
 }
 
-/// So many characters, from the first to the last of them and again.
-fn characters(count: usize) -> Vec<u8> {
-    (32..=126).cycle().take(count).collect()
+/// So many characters of a set, from its last one to its first and again.
+fn characters(count: usize, allowed: Allowed) -> Vec<u8> {
+    let set = (0..=u8::MAX).rev().filter(|&byte| allowed.allows(byte));
+    set.cycle().take(count).collect()
 }
 
 /// A text in a field, with its null, even if that is more than the field may
@@ -275,7 +324,7 @@ fn characters(count: usize) -> Vec<u8> {
 fn laid_text(field: Field, text: &[u8]) -> Vec<u8> {
     let with_null = [text, &[0]].concat();
     match field.sort {
-        Sort::Variable => {
+        Sort::Variable(_) => {
             let length = with_null.len() as u16;
             [&length.to_le_bytes()[..], &with_null].concat()
         }
@@ -295,15 +344,15 @@ fn greatest(field: Field) -> Vec<u8> {
     vec![u8::MAX; field.width]
 }
 
-/// A message with every position that its type knows, in plain form; `count`
-/// tells how many characters each text has.
-fn every_position(message_type: u8, count: impl Fn(Text) -> usize) -> ToWrite {
+/// A message with every position that its type knows, and no bytes behind the
+/// null that ends each text; `content` tells the text before it.
+fn every_position(message_type: u8, content: impl Fn(Text) -> Vec<u8>) -> ToWrite {
     let mut map = [0; MAP_WIDTH];
     let mut body = Vec::new();
     for (position, field) in known(message_type) {
         set(&mut map, position);
         body.extend(if field.is_text() {
-            laid_text(field, &characters(count(Text::At(position, field))))
+            laid_text(field, &content(Text::At(position, field)))
         } else {
             greatest(field)
         });
@@ -315,27 +364,115 @@ fn every_position(message_type: u8, count: impl Fn(Text) -> usize) -> ToWrite {
             poss_dup: 1,
             poss_resend: 1,
         },
-        comp_id: characters(count(Text::CompId)),
+        comp_id: content(Text::CompId),
         map,
         body,
     }
 }
 
+/// A message with every position that its type knows, in plain form; `count`
+/// tells how many characters each text has.
+fn every_position_of(message_type: u8, count: impl Fn(Text) -> usize) -> ToWrite {
+    every_position(message_type, |text| characters(count(text), text.allowed()))
+}
+
 /// The longest message of a type: every known position, each text full.
 pub fn longest(message_type: u8) -> ToWrite {
-    every_position(message_type, Text::full)
+    every_position_of(message_type, Text::full)
 }
 
 /// The longest message, but one text has a character less.
 pub fn one_shorter(message_type: u8, short: Text) -> ToWrite {
-    every_position(message_type, |text| {
+    every_position_of(message_type, |text| {
         text.full() - usize::from(text == short)
     })
 }
 
 /// The longest message, but one text has a character more than it may have.
 pub fn one_too_long(message_type: u8, long: Text) -> ToWrite {
-    every_position(message_type, |text| text.full() + usize::from(text == long))
+    every_position_of(message_type, |text| text.full() + usize::from(text == long))
+}
+
+/// How many characters the other texts have beside the one that is tried.
+const BESIDE: usize = 3;
+
+/// A message with every position that its type knows, one of its texts being
+/// these bytes, whatever they are.
+pub fn with_text(message_type: u8, tried: Text, bytes: &[u8]) -> ToWrite {
+    every_position(message_type, |text| {
+        if text == tried {
+            bytes.to_vec()
+        } else {
+            characters(BESIDE, text.allowed())
+        }
+    })
+}
+
+/// A message to write as bytes that can be read, good or bad. The Comp ID leaves
+/// room for its null.
+pub fn framed(given: &ToWrite) -> Vec<u8> {
+    let head = Given {
+        message_type: given.head.message_type,
+        number: given.head.number,
+        poss_dup: given.head.poss_dup,
+        poss_resend: given.head.poss_resend,
+        comp_id: &given.comp_id,
+    };
+    let mut comp_id = given.comp_id.clone();
+    comp_id.resize(COMP_ID_WIDTH, 0);
+    frame(&head, &comp_id, &given.map, &given.body)
+}
+
+/// So many bytes of one value, one of them made another.
+fn one_other(count: usize, filler: u8, at: usize, other: u8) -> Vec<u8> {
+    let mut bytes = vec![filler; count];
+    bytes[at] = other;
+    bytes
+}
+
+/// How many characters from the first on an edge is put at: a reader that looks
+/// at eight bytes together then meets it at every place of two words, and of a
+/// third one's first.
+const EDGE_OFFSETS: usize = 17;
+
+/// What stands around an edge: a character, and with accented ones the least and
+/// the greatest of them too, to see what one byte does to its neighbour.
+fn fillers(allowed: Allowed) -> &'static [u8] {
+    match allowed {
+        Allowed::Ascii => b"A",
+        Allowed::Accented => b"A\x80\xFF",
+    }
+}
+
+/// A byte that no text may hold.
+const BAD: u8 = 127;
+
+/// So many bytes of which a null ends the text; bad ones stand behind it.
+fn ended_early(count: usize, filler: u8, at: usize) -> Vec<u8> {
+    let mut bytes = one_other(count, BAD, at, 0);
+    bytes[..at].fill(filler);
+    bytes
+}
+
+/// Bytes to be tried as a text. The first of a full one, and the middle one, has
+/// every value. Then every edge stands at every offset, as the last character and
+/// inside a full text, and a null inside a full one.
+pub fn tried(text: Text) -> Vec<Vec<u8>> {
+    let full = text.full();
+    let mut all = Vec::new();
+    for at in [0, full / 2] {
+        all.extend((0..=u8::MAX).map(|value| one_other(full, b'A', at, value)));
+    }
+    for &filler in fillers(text.allowed()) {
+        for at in 0..full.min(EDGE_OFFSETS) {
+            for edge in EDGE_CHARACTERS {
+                all.push(one_other(at + 1, filler, at, edge));
+                all.push(one_other(full, filler, at, edge));
+            }
+            all.push(ended_early(full, filler, at));
+        }
+    }
+    all
 }
 
 /// Makes the checksum right again for the Length that stands there; nothing if
@@ -362,6 +499,34 @@ fn refit(bytes: &mut [u8]) {
     }
 }
 
+/// The texts of a good body that are not empty, by where their characters stand;
+/// none where the body is not good.
+fn text_places(message_type: u8, map: &[u8], body: &[u8]) -> Vec<Range<usize>> {
+    let place = |text: &[u8]| {
+        let begin = text.as_ptr() as usize - body.as_ptr() as usize;
+        begin..begin + text.len()
+    };
+    let fields = wire::walk(message_type, map, body).unwrap_or_default();
+    let texts = fields.iter().map(|found| found.text);
+    texts.filter(|text| !text.is_empty()).map(place).collect()
+}
+
+/// Puts an edge, or a null, into one of the texts of a good body; nothing where
+/// there is none.
+pub fn spoil_text(rng: &mut Rng, message_type: u8, map: &[u8], body: &mut [u8]) {
+    let texts = text_places(message_type, map, body);
+    if texts.is_empty() {
+        return;
+    }
+    let text = &texts[rng.index(texts.len())];
+    let at = text.start + rng.index(text.len());
+    body[at] = if rng.chance(10) {
+        0
+    } else {
+        EDGE_CHARACTERS[rng.index(EDGE_CHARACTERS.len())]
+    };
+}
+
 /// Spoils a message in one place, in half of the cases with the checksum made
 /// right again.
 pub fn spoil(rng: &mut Rng, message: &[u8]) -> Vec<u8> {
@@ -370,7 +535,7 @@ pub fn spoil(rng: &mut Rng, message: &[u8]) -> Vec<u8> {
         return bytes;
     }
     let right_sum = rng.chance(50);
-    match rng.below(10) {
+    match rng.below(11) {
         // A single bit.
         0 | 1 => {
             let at = rng.index(bytes.len());
@@ -441,6 +606,15 @@ pub fn spoil(rng: &mut Rng, message: &[u8]) -> Vec<u8> {
                     bytes.extend(rng.bytes(more));
                 }
             }
+        }
+        // A character of a text. With a wrong sum it would not be looked at.
+        9 => {
+            if let Ok(head) = reader::read(&bytes) {
+                let (before, body) = bytes[..head.length - TRAILER].split_at_mut(BODY_AT);
+                spoil_text(rng, head.message_type, &before[MAP_AT..], body);
+                reseal(&mut bytes);
+            }
+            return bytes;
         }
         // Bytes after the message: no damage at all to the front.
         _ => {
@@ -645,9 +819,9 @@ pub fn events(rng: &mut Rng, start: &Start, count: usize) -> Vec<Event> {
         }
         let event = match rng.below(100) {
             0 => Event::Drop,
-            1 => Event::Connect(rng.text(451)),
+            1 => Event::Connect(rng.text(451, Allowed::Ascii)),
             2 => Event::Lend(arrival(rng, &session)),
-            _ if down => Event::Connect(rng.text(449)),
+            _ if down => Event::Connect(rng.text(449, Allowed::Ascii)),
             _ => Event::Lend(arrival(rng, &session)),
         };
         match &event {
@@ -750,7 +924,7 @@ pub fn sheet(rng: &mut Rng, count: usize) -> Vec<u8> {
         if rng.chance(1) {
             match rng.below(6) {
                 0 => line.push(b' '),
-                1 => line = rng.text(40),
+                1 => line = rng.text(40, Allowed::Ascii),
                 2 => line = format!("kind=business n={} dup=2 new=0", at).into_bytes(),
                 3 => line = b"kind=business n=4294967296 dup=0 new=0".to_vec(),
                 4 => line = b"kind=business n=0 dup=0 new=0".to_vec(),

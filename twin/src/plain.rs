@@ -94,8 +94,11 @@ enum Kind {
     /// Any value: only the width counts.
     Any,
     GapFill,
+    /// Texts of characters 32 to 126.
     Fixed,
     Variable,
+    /// A variable text of characters 32 to 126 and 128 to 255.
+    Accented,
 }
 
 /// The sort of a value: what a list of fields calls a number, a Decimal and a
@@ -133,6 +136,13 @@ const fn var(width: u16) -> Shape {
         width,
     }
 }
+const fn acc(width: u16) -> Shape {
+    Shape {
+        kind: Kind::Accented,
+        sort: TEXT,
+        width,
+    }
+}
 const DEC: Shape = Shape {
     kind: Kind::Any,
     sort: DECIMAL,
@@ -157,7 +167,7 @@ const LINES: [&[Line]; 11] = [
     // 3 Reject
     &[
         (0, any(2), true),
-        (1, var(75), false),
+        (1, acc(75), false), // Reason
         (2, any(1), false),
         (3, fix(50), false),
         (4, any(4), true),
@@ -171,7 +181,7 @@ const LINES: [&[Line]; 11] = [
         (1, fix(450), false),
         (2, any(4), true),
         (3, any(1), false),
-        (4, var(50), false),
+        (4, acc(50), false), // Text
         (5, any(1), false),
     ],
     // 6 Logout
@@ -182,7 +192,7 @@ const LINES: [&[Line]; 11] = [
     &[
         (0, any(1), true),
         (1, any(1), false),
-        (2, var(75), false),
+        (2, acc(75), false), // Reason
         (3, fix(16), false),
         (4, any(2), false),
         (5, fix(16), false),
@@ -191,7 +201,7 @@ const LINES: [&[Line]; 11] = [
     // 9 Business Message Reject
     &[
         (0, any(2), true),
-        (1, var(75), false),
+        (1, acc(75), false), // Reason
         (2, any(1), true),
         (3, fix(50), false),
         (4, any(4), false),
@@ -217,8 +227,8 @@ const LINES: [&[Line]; 11] = [
         (16, fix(21), false), // Order Restrictions
         (17, any(1), false),  // Max Price Levels
         (18, any(1), false),  // Order Capacity
-        (19, var(50), false), // Text
-        (20, var(75), false), // Reason
+        (19, acc(50), false), // Text
+        (20, acc(75), false), // Reason
         (21, fix(21), true),  // Execution ID
         (22, any(1), true),   // Order Status
         (23, any(1), true),   // Exec Type
@@ -284,10 +294,15 @@ static LAYOUTS: [Layout; 11] = [
 
 // ---- Texts ----
 
+/// The sets of characters that `text_end` is made for, each on its own: 32 to
+/// 126, and these with 128 to 255.
+const ASCII: bool = false;
+const ACCENTED: bool = true;
+
 /// Where the null stands, if only characters stand before it. Eight bytes are
-/// looked at together: the first byte outside 32 to 126 decides.
+/// looked at together: the first byte outside the set decides.
 #[inline]
-fn text_end(bytes: &[u8]) -> Option<usize> {
+fn text_end<const SET: bool>(bytes: &[u8]) -> Option<usize> {
     const ONES: u64 = 0x0101_0101_0101_0101;
     const HIGH: u64 = 0x80 * ONES;
     let mut at = 0;
@@ -295,9 +310,14 @@ fn text_end(bytes: &[u8]) -> Option<usize> {
         let word = u64_at(bytes, at);
         let low7 = word & !HIGH;
         // Each sum stays inside its byte, so every flag is exact.
-        let above = (low7 + ONES) | word;
-        let below = !((low7 + 0x60 * ONES) | word);
-        let outside = (above | below) & HIGH;
+        let above = low7 + ONES;
+        let below = !(low7 + 0x60 * ONES);
+        // The flags tell of the low seven bits; a byte with its top bit set is
+        // outside by that alone, or not at all.
+        let outside = match SET {
+            ASCII => (above | below | word) & HIGH,
+            ACCENTED => (above | below) & !word & HIGH,
+        };
         if outside != 0 {
             let at = at + outside.trailing_zeros() as usize / 8;
             return if bytes[at] == 0 { Some(at) } else { None };
@@ -306,12 +326,26 @@ fn text_end(bytes: &[u8]) -> Option<usize> {
     }
     while at < bytes.len() {
         let byte = bytes[at];
-        if byte.wrapping_sub(32) > 126 - 32 {
+        let outside = match SET {
+            ASCII => byte.wrapping_sub(32) > 126 - 32,
+            ACCENTED => byte < 32 || byte == 127,
+        };
+        if outside {
             return if byte == 0 { Some(at) } else { None };
         }
         at += 1;
     }
     None
+}
+
+/// The same for a text of a kind.
+#[inline]
+fn text_end_of(kind: Kind, bytes: &[u8]) -> Option<usize> {
+    if kind == Kind::Accented {
+        text_end::<ACCENTED>(bytes)
+    } else {
+        text_end::<ASCII>(bytes)
+    }
 }
 
 // ---- Reader ----
@@ -378,12 +412,12 @@ fn walk(
                 if rest.len() < width {
                     return refused(9, position);
                 }
-                match text_end(&rest[..width]) {
+                match text_end::<ASCII>(&rest[..width]) {
                     Some(end) => (0, end, width),
                     None => return refused(9, position),
                 }
             }
-            Kind::Variable => {
+            Kind::Variable | Kind::Accented => {
                 if rest.len() < 2 {
                     return refused(9, position);
                 }
@@ -392,7 +426,7 @@ fn walk(
                 if length > width || rest.len() < 2 + length {
                     return refused(9, position);
                 }
-                match text_end(&rest[2..2 + length]) {
+                match text_end_of(shape.kind, &rest[2..2 + length]) {
                     Some(end) => (2, end, 2 + length),
                     None => return refused(9, position),
                 }
@@ -478,7 +512,7 @@ fn open(bytes: &[u8]) -> Result<Opened<'_>, Refusal> {
         Some(layout) => layout,
         None => return refused(5, 0),
     };
-    let comp_id_end = text_end(&message[10..22]).unwrap_or(0);
+    let comp_id_end = text_end::<ASCII>(&message[10..22]).unwrap_or(0);
     if head.number == 0 || head.poss_dup | head.poss_resend > 1 || comp_id_end == 0 {
         return refused(6, 0);
     }
@@ -554,11 +588,11 @@ pub fn ask_text(bytes: &[u8], position: u32) -> Result<&[u8], Refusal> {
     let (shape, field) = ask(bytes, position)?;
     let text = match shape.kind {
         Kind::Fixed => &field[..usize::from(shape.width)],
-        Kind::Variable => &field[2..2 + usize::from(u16_at(field, 0))],
+        Kind::Variable | Kind::Accented => &field[2..2 + usize::from(u16_at(field, 0))],
         _ => return refused(14, 0),
     };
     // The walk has found the null.
-    Ok(&text[..text_end(text).unwrap_or(0)])
+    Ok(&text[..text_end_of(shape.kind, text).unwrap_or(0)])
 }
 
 /// How many numbers a list has for a field: position, sort, offset, length,
@@ -619,7 +653,7 @@ fn padded(comp_id: &[u8]) -> Result<[u8; 12], Refusal> {
         return refused(6, 0);
     }
     padded[..comp_id.len()].copy_from_slice(comp_id);
-    if text_end(&padded) != Some(comp_id.len()) {
+    if text_end::<ASCII>(&padded) != Some(comp_id.len()) {
         return refused(6, 0);
     }
     Ok(padded)
@@ -670,7 +704,7 @@ pub fn write(
     let end = walk(layout, word, body, 0, |place| {
         let from = place.at + place.length + 1;
         if from < place.end {
-            let variable = place.kind == Kind::Variable;
+            let variable = place.kind != Kind::Fixed;
             tails[count] = Tail {
                 variable,
                 text: place.at as u16,

@@ -65,7 +65,7 @@ fn header(message: &[u8]) -> Result<Head, Refusal> {
     if head.message_type > types::LAST {
         return Err(refuse(UNKNOWN_TYPE, 0));
     }
-    let comp_id = before_null(comp_id_field(message));
+    let comp_id = before_null(comp_id_field(message), Allowed::Ascii);
     let bad_comp_id = comp_id.map_or(true, |text| text.is_empty());
     if head.number == 0 || head.poss_dup > 1 || head.poss_resend > 1 || bad_comp_id {
         return Err(refuse(BAD_HEADER, 0));
@@ -107,7 +107,7 @@ fn accepted(bytes: &[u8]) -> Option<&[u8]> {
 /// The Comp ID's characters; empty on a refusal.
 pub fn comp_id(bytes: &[u8]) -> &[u8] {
     accepted(bytes)
-        .and_then(|message| before_null(comp_id_field(message)))
+        .and_then(|message| before_null(comp_id_field(message), Allowed::Ascii))
         .unwrap_or(&[])
 }
 
@@ -148,7 +148,7 @@ pub fn ask_number(bytes: &[u8], position: u32) -> Result<Value, Refusal> {
             let bits = number(found.whole).to_le_bytes();
             Ok(Value::Decimal(i64::from_le_bytes(bits)))
         }
-        Sort::Fixed | Sort::Variable => Err(refuse(OTHER_SORT, 0)),
+        Sort::Fixed(_) | Sort::Variable(_) => Err(refuse(OTHER_SORT, 0)),
     }
 }
 
@@ -156,7 +156,7 @@ pub fn ask_number(bytes: &[u8], position: u32) -> Result<Value, Refusal> {
 pub fn ask_text(bytes: &[u8], position: u32) -> Result<&[u8], Refusal> {
     let found = ask(bytes, position)?;
     match found.field.sort {
-        Sort::Fixed | Sort::Variable => Ok(found.text),
+        Sort::Fixed(_) | Sort::Variable(_) => Ok(found.text),
         Sort::Number | Sort::Byte | Sort::Decimal => Err(refuse(OTHER_SORT, 0)),
     }
 }
@@ -180,9 +180,9 @@ pub fn list(bytes: &[u8], room: usize) -> Result<(Head, Vec<[u64; A_FIELD]>), Re
         let (sort, begin, length, value) = match found.field.sort {
             Sort::Number | Sort::Byte => (NUMBER, at, whole, number(found.whole)),
             Sort::Decimal => (DECIMAL, at, whole, number(found.whole)),
-            Sort::Fixed => (TEXT, at, text, 0),
+            Sort::Fixed(_) => (TEXT, at, text, 0),
             // Its two length bytes stand before the characters.
-            Sort::Variable => (TEXT, at + 2, text, 0),
+            Sort::Variable(_) => (TEXT, at + 2, text, 0),
         };
         let position = found.position as u64;
         list.push([position, sort, begin as u64, length as u64, value]);

@@ -5,8 +5,8 @@ use crate::make::{self, Given, Rng};
 use crate::plain;
 use crate::reader;
 use crate::session::{A_ROW, A_SEND, SENDS_A_STEP};
-use crate::tables::{types, EXECUTION_REPORTS};
-use crate::wire::{number, set, MAP_WIDTH};
+use crate::tables::{types, Field, Sort, EXECUTION_REPORTS};
+use crate::wire::{number, set, Allowed, MAP_WIDTH};
 use crate::writer::{self, HeadValues};
 
 /// Our Comp ID.
@@ -14,6 +14,17 @@ pub const US: &[u8] = b"RECORDER01";
 
 /// Room for the list of every message's fields, as the library's header has it.
 pub const LIST: usize = 320;
+
+/// A field that, if it is a text, has no accented characters. So the reports stay
+/// what they were before there were any, and their figures can be compared.
+fn ascii(field: Field) -> Field {
+    let sort = match field.sort {
+        Sort::Number | Sort::Byte | Sort::Decimal => field.sort,
+        Sort::Fixed(_) => Sort::Fixed(Allowed::Ascii),
+        Sort::Variable(_) => Sort::Variable(Allowed::Ascii),
+    };
+    Field { sort, ..field }
+}
 
 /// An execution report by one of the nine tables: all that it requires and
 /// some of the rest, 180 to 350 bytes.
@@ -25,7 +36,7 @@ fn report(rng: &mut Rng, number: u32) -> Vec<u8> {
         for &(position, field, required) in table {
             if required || rng.chance(30) {
                 set(&mut map, position);
-                body.extend(make::field(rng, field));
+                body.extend(make::field(rng, ascii(field)));
             }
         }
         let given = Given {

@@ -4,7 +4,8 @@
 use crate::reader::{self, Head, Value};
 use crate::tables::{self, types};
 use crate::wire::{
-    is_comp_id, number, refuse, Refusal, BAD_HEADER, BAD_LENGTH, BAD_START, BAD_SUM, NO_ROOM, SHORT,
+    is_comp_id, number, refuse, Allowed, Refusal, BAD_HEADER, BAD_LENGTH, BAD_START, BAD_SUM,
+    NO_ROOM, SHORT,
 };
 use crate::writer;
 use std::ops::RangeInclusive;
@@ -321,7 +322,7 @@ impl Session {
         if self.o == LAST {
             return Err(refuse(EXHAUSTED, 0));
         }
-        writer::check_text(password, tables::PASSWORD.width)?;
+        writer::check_text(password, tables::PASSWORD.width, Allowed::Ascii)?;
         let number = self.take_number();
         self.phase = Phase::Waiting;
         Ok(Logon {

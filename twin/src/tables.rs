@@ -1,9 +1,10 @@
 //! The data dictionary (004 section 8.2) and the tables of the message types
 //! 0 to 10 (004 sections 7.6, 7.7, 7.8, 7.11), typed by hand.
 
-use crate::wire::{BODY_AT, TRAILER};
+use crate::wire::{Allowed, BODY_AT, TRAILER};
 
-/// How a field lies in the body (004 section 6.1).
+/// How a field lies in the body (004 section 6.1), and for a text the set of its
+/// characters.
 #[derive(Clone, Copy, Debug, PartialEq, Eq)]
 pub enum Sort {
     /// UInt8, UInt16 or UInt32, by its width.
@@ -13,10 +14,10 @@ pub enum Sort {
     /// A signed 64-bit count of hundred-millionths.
     Decimal,
     /// Alphanumeric Fixed Length; the width counts the null.
-    Fixed,
+    Fixed(Allowed),
     /// Alphanumeric Variable Length; the width is the greatest length, null
     /// counted and the two length bytes not.
-    Variable,
+    Variable(Allowed),
 }
 
 /// The UInt16 in front of a variable text that tells its length.
@@ -32,15 +33,23 @@ pub struct Field {
 
 impl Field {
     pub fn is_text(self) -> bool {
-        matches!(self.sort, Sort::Fixed | Sort::Variable)
+        self.allowed().is_some()
+    }
+
+    /// The set of a text's characters; None for other sorts.
+    pub fn allowed(self) -> Option<Allowed> {
+        match self.sort {
+            Sort::Number | Sort::Byte | Sort::Decimal => None,
+            Sort::Fixed(allowed) | Sort::Variable(allowed) => Some(allowed),
+        }
     }
 
     /// The most bytes that the field takes. Only a variable text may take
     /// fewer, and only it has a length besides.
     pub fn most(self) -> usize {
         match self.sort {
-            Sort::Number | Sort::Byte | Sort::Decimal | Sort::Fixed => self.width,
-            Sort::Variable => TEXT_LENGTH + self.width,
+            Sort::Number | Sort::Byte | Sort::Decimal | Sort::Fixed(_) => self.width,
+            Sort::Variable(_) => TEXT_LENGTH + self.width,
         }
     }
 }
@@ -63,29 +72,31 @@ const fn byte(name: &'static str) -> Field {
 const fn decimal(name: &'static str) -> Field {
     field(name, Sort::Decimal, 8)
 }
-const fn fixed(name: &'static str, width: usize) -> Field {
-    field(name, Sort::Fixed, width)
+const fn fixed(name: &'static str, width: usize, allowed: Allowed) -> Field {
+    field(name, Sort::Fixed(allowed), width)
 }
-const fn variable(name: &'static str, width: usize) -> Field {
-    field(name, Sort::Variable, width)
+const fn variable(name: &'static str, width: usize, allowed: Allowed) -> Field {
+    field(name, Sort::Variable(allowed), width)
 }
 
 // 004 section 8.2, in its order. The fields that only type 21 uses are left
 // out, since type 21 is not held: Clearing Instruction, Owning Broker ID, Trade
 // Type, Trade Report ID, Trade Report Trans Type, Trade Report Type, Trade
-// Report Status, Trade ID, Trade Handling Instructions.
+// Report Status, Trade ID, Trade Handling Instructions. The sets of characters
+// are document 02's, item 8: 004 section 6.1 speaks of ASCII alone.
 pub const AGGRESSOR_INDICATOR: Field = uint8("Aggressor Indicator");
-pub const BROKER_LOCATION_ID: Field = fixed("Broker Location ID", 11);
+pub const BROKER_LOCATION_ID: Field = fixed("Broker Location ID", 11, Allowed::Ascii);
 pub const BUSINESS_REJECT_CODE: Field = uint16("Business Reject Code");
-pub const BUSINESS_REJECT_REFERENCE_ID: Field = fixed("Business Reject Reference ID", 21);
-pub const CLIENT_ORDER_ID: Field = fixed("Client Order ID", 21);
+pub const BUSINESS_REJECT_REFERENCE_ID: Field =
+    fixed("Business Reject Reference ID", 21, Allowed::Ascii);
+pub const CLIENT_ORDER_ID: Field = fixed("Client Order ID", 21, Allowed::Ascii);
 pub const COPY_MESSAGE_INDICATOR: Field = uint8("Copy Message Indicator");
-pub const COUNTERPARTY_BROKER_ID: Field = fixed("Counterparty Broker ID", 12);
+pub const COUNTERPARTY_BROKER_ID: Field = fixed("Counterparty Broker ID", 12, Allowed::Ascii);
 pub const CUMULATIVE_QUANTITY: Field = decimal("Cumulative Quantity");
 /// Section 7.7.5 calls it End Sequence Number.
 pub const END_SEQUENCE: Field = uint32("End Sequence");
 pub const EXEC_TYPE: Field = byte("Exec Type");
-pub const EXECUTION_ID: Field = fixed("Execution ID", 21);
+pub const EXECUTION_ID: Field = fixed("Execution ID", 21, Allowed::Ascii);
 pub const EXECUTION_PRICE: Field = decimal("Execution Price");
 pub const EXECUTION_QUANTITY: Field = decimal("Execution Quantity");
 pub const EXEC_RESTATEMENT_REASON: Field = uint16("Exec Restatement Reason");
@@ -93,54 +104,54 @@ pub const EXCHANGE_TRADE_TYPE: Field = byte("Exchange Trade Type");
 /// The only Byte that does not take every value: 'Y' or 'N'.
 pub const GAP_FILL: Field = byte("Gap Fill");
 pub const LEAVES_QUANTITY: Field = decimal("Leaves Quantity");
-pub const LOGOUT_TEXT: Field = variable("Logout Text", 75);
+pub const LOGOUT_TEXT: Field = variable("Logout Text", 75, Allowed::Ascii);
 pub const LOOKUP_REJECT_CODE: Field = uint8("Lookup Reject Code");
 pub const LOT_TYPE: Field = uint8("Lot Type");
 pub const MATCH_TYPE: Field = uint8("Match Type");
 pub const MAX_PRICE_LEVELS: Field = uint8("Max Price Levels");
 pub const MESSAGE_REJECT_CODE: Field = uint16("Message Reject Code");
-pub const NEW_PASSWORD: Field = fixed("New Password", 450);
+pub const NEW_PASSWORD: Field = fixed("New Password", 450, Allowed::Ascii);
 pub const NEW_SEQUENCE_NUMBER: Field = uint32("New Sequence Number");
 pub const NEXT_EXPECTED: Field = uint32("Next Expected Message Sequence");
-pub const ORDER_ID: Field = fixed("Order ID", 21);
+pub const ORDER_ID: Field = fixed("Order ID", 21, Allowed::Ascii);
 pub const ORDER_QUANTITY: Field = decimal("Order Quantity");
 pub const ORDER_STATUS: Field = uint8("Order Status");
 pub const ORDER_TYPE: Field = uint8("Order Type");
-pub const ORDER_RESTRICTIONS: Field = fixed("Order Restrictions", 21);
+pub const ORDER_RESTRICTIONS: Field = fixed("Order Restrictions", 21, Allowed::Ascii);
 pub const ORDER_CAPACITY: Field = uint8("Order Capacity");
 pub const ORDER_CATEGORY: Field = uint8("Order Category");
-pub const ORIGINAL_CLIENT_ORDER_ID: Field = fixed("Original Client Order ID", 21);
-pub const PASSWORD: Field = fixed("Password", 450);
+pub const ORIGINAL_CLIENT_ORDER_ID: Field = fixed("Original Client Order ID", 21, Allowed::Ascii);
+pub const PASSWORD: Field = fixed("Password", 450, Allowed::Ascii);
 pub const POSITION_EFFECT: Field = uint8("Position Effect");
 pub const PRICE: Field = decimal("Price");
 pub const PROTOCOL_TYPE: Field = uint8("Protocol Type");
-pub const PRIMARY_IP: Field = fixed("Primary IP", 16);
+pub const PRIMARY_IP: Field = fixed("Primary IP", 16, Allowed::Ascii);
 pub const PRIMARY_PORT: Field = uint16("Primary Port");
-pub const REFERENCE_EXECUTION_ID: Field = fixed("Reference Execution ID", 21);
-pub const REFERENCE_FIELD_NAME: Field = fixed("Reference Field Name", 50);
+pub const REFERENCE_EXECUTION_ID: Field = fixed("Reference Execution ID", 21, Allowed::Ascii);
+pub const REFERENCE_FIELD_NAME: Field = fixed("Reference Field Name", 50, Allowed::Ascii);
 pub const REFERENCE_MESSAGE_TYPE: Field = uint8("Reference Message Type");
 pub const REFERENCE_SEQUENCE_NUMBER: Field = uint32("Reference Sequence Number");
 pub const REFERENCE_TEST_REQUEST_ID: Field = uint16("Reference Test Request ID");
-pub const REASON: Field = variable("Reason", 75);
-pub const SECURITY_EXCHANGE: Field = fixed("Security Exchange", 5);
-pub const SECURITY_ID: Field = fixed("Security ID", 21);
+pub const REASON: Field = variable("Reason", 75, Allowed::Accented);
+pub const SECURITY_EXCHANGE: Field = fixed("Security Exchange", 5, Allowed::Ascii);
+pub const SECURITY_ID: Field = fixed("Security ID", 21, Allowed::Ascii);
 pub const SECURITY_ID_SOURCE: Field = uint8("Security ID Source");
-pub const SECONDARY_IP: Field = fixed("Secondary IP", 16);
+pub const SECONDARY_IP: Field = fixed("Secondary IP", 16, Allowed::Ascii);
 pub const SECONDARY_PORT: Field = uint16("Secondary Port");
 pub const SESSION_STATUS: Field = uint8("Session Status");
 pub const SIDE: Field = uint8("Side");
-pub const SMP_ID: Field = fixed("SMP ID", 10);
+pub const SMP_ID: Field = fixed("SMP ID", 10, Allowed::Ascii);
 /// Section 7.7.5 calls it Start Sequence Number.
 pub const START_SEQUENCE: Field = uint32("Start Sequence");
 pub const STATUS: Field = uint8("Status");
-pub const SUBMITTING_BROKER_ID: Field = fixed("Submitting Broker ID", 12);
-pub const TEXT: Field = variable("Text", 50);
+pub const SUBMITTING_BROKER_ID: Field = fixed("Submitting Broker ID", 12, Allowed::Ascii);
+pub const TEXT: Field = variable("Text", 50, Allowed::Accented);
 /// The tables call it Time In Force (TIF), Time In Force, or TIF.
 pub const TIME_IN_FORCE: Field = uint8("Time In Force - TIF");
 pub const TEST_MESSAGE_INDICATOR: Field = uint8("Test Message Indicator");
 pub const TEST_REQUEST_ID: Field = uint16("Test Request ID");
-pub const TRANSACTION_TIME: Field = fixed("Transaction Time", 25);
-pub const TRADE_MATCH_ID: Field = fixed("Trade Match ID", 25);
+pub const TRANSACTION_TIME: Field = fixed("Transaction Time", 25, Allowed::Ascii);
+pub const TRADE_MATCH_ID: Field = fixed("Trade Match ID", 25, Allowed::Ascii);
 pub const TYPE_OF_SERVICE: Field = uint8("Type of Service");
 
 /// A line of a type's table.
@@ -639,6 +650,36 @@ mod tests {
         assert_eq!(find(10, 43).map(|entry| entry.field), Some(SMP_ID));
         assert!((44..300).all(|p| find(10, p).is_none()));
         assert_eq!(find(11, 0), None);
+    }
+
+    /// Document 02, item 8: the fields Text and Reason, and no others.
+    #[test]
+    fn accented_texts_by_hand() {
+        let accented = [
+            // 7.7.6 Reject: Reason.
+            (3, 1),
+            // 7.7.1 Logon: Text.
+            (5, 4),
+            // 7.6.2 Lookup Response: Reason.
+            (8, 2),
+            // 7.11.1 Business Message Reject: Reason.
+            (9, 1),
+            // 7.8.1 to 7.8.9: Text, and only in 7.8.4 Reason.
+            (10, 19),
+            (10, 20),
+        ];
+        for message_type in 0..=types::LAST {
+            for position in 0..256 {
+                let allowed = find(message_type, position).and_then(|entry| entry.field.allowed());
+                assert_eq!(
+                    allowed == Some(Allowed::Accented),
+                    accented.contains(&(message_type, position)),
+                    "type {} position {}",
+                    message_type,
+                    position
+                );
+            }
+        }
     }
 
     /// The widths are those of 004 section 8, summed here in the order of each

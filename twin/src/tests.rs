@@ -2,13 +2,13 @@ use crate::daysheet::daysheet;
 use crate::make::{self, Event, Given, Rng, Text};
 use crate::plan::plan;
 use crate::reader::{self, Value, A_FIELD};
-use crate::reports::LIST;
+use crate::reports::{self, LIST};
 use crate::session::{
     self, Answer, Done, Ended, Phase, Row, RowSort, Send, Session, A_ROW, A_SEND, LAST, LAST_KIND,
     NOTHING, NOT_A_SEND, NO_ROW,
 };
 use crate::tables::{self, types, Sort};
-use crate::wire::{self, is_set, refuse, set, Refusal, LEAST, MAP_WIDTH, MOST};
+use crate::wire::{self, is_set, refuse, set, Allowed, Refusal, LEAST, MAP_WIDTH, MOST};
 use crate::writer::{self, HeadValues, ToWrite};
 use crate::{crc, plain};
 
@@ -284,7 +284,15 @@ fn reader_refusals_in_order() {
     assert_eq!(refused(&sum), refuse(4, 66));
     assert_eq!(refused(&framed(11, 0, &[], &[])), refuse(5, 0));
     assert_eq!(refused(&framed(0, 0, &[1], &[])), refuse(6, 0));
-    for (at, value) in [(8, 2), (9, 2), (10, 0), (10, 31), (19, 127)] {
+    for (at, value) in [
+        (8, 2),
+        (9, 2),
+        (10, 0),
+        (10, 31),
+        (19, 127),
+        (10, 128),
+        (19, 255),
+    ] {
         let mut bytes = good.clone();
         bytes[at] = value;
         make::reseal(&mut bytes);
@@ -325,6 +333,8 @@ fn variable_texts() {
         &[2, 0, b'A', b'B'],
         &[2, 0, 31, 0],
         &[2, 0, 127, 0],
+        &[2, 0, 128, 0],
+        &[2, 0, 255, 0],
     ] {
         assert_eq!(text(bad), Err(refuse(9, 0)), "{:?}", bad);
     }
@@ -336,6 +346,172 @@ fn variable_texts() {
     };
     assert_eq!(long(75).unwrap().len(), 74);
     assert_eq!(long(76), Err(refuse(9, 0)));
+}
+
+/// Document 02, item 8: the wide set has 128 to 255 besides, and both leave out
+/// 127 and what is below 32.
+#[test]
+fn the_two_sets() {
+    for byte in 0..=255 {
+        let narrow = Allowed::Ascii.allows(byte);
+        let wide = Allowed::Accented.allows(byte);
+        assert_eq!(narrow, (32..127).contains(&byte));
+        assert_eq!(wide, byte >= 32 && byte != 127);
+        assert!(wide || !narrow);
+    }
+}
+
+/// What the text reader finds, with the narrow set and with the wide one.
+fn texts_in(bytes: &[u8]) -> [Option<&[u8]>; 2] {
+    [Allowed::Ascii, Allowed::Accented].map(|allowed| wire::before_null(bytes, allowed))
+}
+
+#[test]
+fn text_reader_takes_the_set() {
+    for good in [&b""[..], b" ~", b"Reason"] {
+        let bytes = [good, b"\0\x7F\xE9"].concat();
+        assert_eq!(texts_in(&bytes), [Some(good); 2]);
+    }
+    for accented in [&b"\x80"[..], b"\xFF", b"Caf\xE9", b"\x9F\xA0 "] {
+        let bytes = [accented, b"\0\x7F\xE9"].concat();
+        assert_eq!(texts_in(&bytes), [None, Some(accented)]);
+    }
+    for bad in [&b""[..], b"A", b"\xE9", b"\x7F\0", b"\xE9\x7F\0", b"\x1F\0"] {
+        assert_eq!(texts_in(bad), [None; 2]);
+    }
+}
+
+/// A variable text in plain form.
+fn variable(text: &[u8]) -> Vec<u8> {
+    let length = text.len() as u16 + 1;
+    [&length.to_le_bytes()[..], text, &[0]].concat()
+}
+
+/// A message with a text at a position.
+struct FreeText {
+    message: Vec<u8>,
+    position: u32,
+}
+
+/// For every Text and every Reason that the tables of 004 have, a message with
+/// this one, and of the other fields only those that are required.
+fn free_texts(text: &[u8]) -> [FreeText; 6] {
+    let text = &variable(text)[..];
+    // 7.7.6 Reject: Message Reject Code, Reason, Reference Sequence Number.
+    let reject = [&[99, 0][..], text, &[7, 0, 0, 0]].concat();
+    // 7.7.1 Logon: Next Expected Message Sequence, Text.
+    let logon = [&[4, 0, 0, 0][..], text].concat();
+    // 7.6.2 Lookup Response: Status, Reason.
+    let lookup = [&[1][..], text].concat();
+    // 7.11.1 Business Message Reject: Business Reject Code, Reason, Reference
+    // Message Type.
+    let business = [&[4, 0][..], text, &[10]].concat();
+    // 7.8: Text and Reason stand before position 21, which began at 81 of the
+    // body.
+    let (required, mut report) = required_body();
+    report.splice(81..81, text.to_vec());
+    let with = |position| [&required[..], &[position]].concat();
+    [
+        (3, 1, vec![0, 1, 4], &reject),
+        (5, 4, vec![2, 4], &logon),
+        (8, 2, vec![0, 2], &lookup),
+        (9, 1, vec![0, 1, 2], &business),
+        (10, 19, with(19), &report),
+        (10, 20, with(20), &report),
+    ]
+    .map(|(message_type, position, positions, body)| FreeText {
+        message: framed(message_type, 3, &positions, body),
+        position,
+    })
+}
+
+/// Document 02, item 8: Text and Reason take what no other text takes.
+#[test]
+fn accented_texts() {
+    let first: Vec<u8> = (128..=176).collect();
+    let last: Vec<u8> = (207..=255).collect();
+    for text in [
+        &b""[..],
+        b"plain",
+        b"\x80",
+        b"\xFF",
+        b"\x9F\xA0",
+        b"Caf\xE9 M\xFCller",
+        // What UTF-8 makes of an e with its accent, and of a euro sign.
+        b"\xC3\xA9 \xE2\x82\xAC",
+        &first,
+        &last,
+    ] {
+        for FreeText { message, position } in free_texts(text) {
+            assert_eq!(reader::read(&message).unwrap().length, message.len());
+            assert_eq!(plain::read(&message), reader::read(&message));
+            assert_eq!(reader::ask_text(&message, position), Ok(text));
+            assert_eq!(plain::ask_text(&message, position), Ok(text));
+            let (_, fields) = reader::list(&message, LIST).unwrap();
+            let listed = fields.iter().find(|field| field[0] == u64::from(position));
+            let [_, sort, _, length, value] = *listed.unwrap();
+            assert_eq!((sort, length, value), (3, text.len() as u64, 0));
+        }
+    }
+    // The null ends them as it ends the others.
+    for FreeText { message, position } in free_texts(b"\xE9\0\x7F\x1F") {
+        assert_eq!(reader::ask_text(&message, position), Ok(&b"\xE9"[..]));
+        assert_eq!(plain::ask_text(&message, position), Ok(&b"\xE9"[..]));
+    }
+    for text in [
+        &b"\x7F"[..],
+        b"\x1F",
+        b"\x01",
+        b"\n",
+        b"A\x7F",
+        b"\xE9\x7F",
+        b"\x7F\xE9",
+        b"\xFF\xFF\xFF\xFF\xFF\xFF\xFF\x7F\xFF",
+        b"\x80\x80\x80\x80\x80\x80\x80\x80\x1F",
+    ] {
+        for FreeText { message, position } in free_texts(text) {
+            let refused = Err(refuse(9, position as usize));
+            assert_eq!(reader::read(&message), refused);
+            assert_eq!(plain::read(&message), refused);
+        }
+    }
+}
+
+/// All other texts are as they were.
+#[test]
+fn other_texts_are_not_accented() {
+    let (positions, body) = required_body();
+    let with_first = |at: usize, byte| {
+        let mut body = body.clone();
+        body[at] = byte;
+        framed(10, 1, &positions, &body)
+    };
+    let password = |byte| [padded(&[byte], 450), vec![1, 0, 0, 0]].concat();
+    for byte in [127, 128, 159, 160, 233, 255] {
+        for (message, refusal) in [
+            // 7.7.2: Logout Text is another field than Text.
+            (framed(6, 1, &[0], &variable(&[byte])), refuse(9, 0)),
+            // 7.7.1: Password and New Password.
+            (framed(5, 1, &[0, 2], &password(byte)), refuse(9, 0)),
+            (framed(5, 1, &[1, 2], &password(byte)), refuse(9, 1)),
+            // 7.8: Submitting Broker ID, Security ID and, behind Transaction
+            // Time and Side, Order ID.
+            (with_first(0, byte), refuse(9, 1)),
+            (with_first(12, byte), refuse(9, 2)),
+            (with_first(60, byte), refuse(9, 9)),
+        ] {
+            assert_eq!(reader::read(&message), Err(refusal));
+            assert_eq!(plain::read(&message), Err(refusal));
+        }
+        // 7.4: the Comp ID, whose ten characters begin at byte 10.
+        for at in 10..20 {
+            let mut message = business(1);
+            message[at] = byte;
+            make::reseal(&mut message);
+            assert_eq!(reader::read(&message), Err(refuse(6, 0)));
+            assert_eq!(plain::read(&message), Err(refuse(6, 0)));
+        }
+    }
 }
 
 #[test]
@@ -572,16 +748,23 @@ fn writer_refusals_in_order() {
 #[test]
 fn text_writer() {
     let mut out = [0xEE; 8];
-    assert_eq!(writer::put_text(b"AB", 5, &mut out), Ok(5));
+    let put_text = |text, width, out: &mut [u8]| {
+        // What is right in the narrow set is right in the wide one.
+        let narrow = writer::put_text(text, width, Allowed::Ascii, &mut out.to_vec());
+        let wide = writer::put_text(text, width, Allowed::Accented, out);
+        assert_eq!(narrow, wide);
+        wide
+    };
+    assert_eq!(put_text(b"AB", 5, &mut out), Ok(5));
     assert_eq!(out, [b'A', b'B', 0, 0, 0, 0xEE, 0xEE, 0xEE]);
-    assert_eq!(writer::put_text(b"", 1, &mut out), Ok(1));
-    assert_eq!(writer::put_text(b"", 0, &mut []), Err(refuse(9, 0)));
-    assert_eq!(writer::put_text(b"", 4097, &mut []), Err(refuse(9, 0)));
-    assert_eq!(writer::put_text(b"AB", 2, &mut []), Err(refuse(9, 0)));
-    assert_eq!(writer::put_text(b"\x1f", 9, &mut []), Err(refuse(9, 0)));
-    assert_eq!(writer::put_text(b"\0", 9, &mut []), Err(refuse(9, 0)));
-    assert_eq!(writer::put_text(b"A", 9, &mut out), Err(refuse(11, 9)));
-    assert_eq!(writer::put_text(b"", 4096, &mut out), Err(refuse(11, 4096)));
+    assert_eq!(put_text(b"", 1, &mut out), Ok(1));
+    assert_eq!(put_text(b"", 0, &mut []), Err(refuse(9, 0)));
+    assert_eq!(put_text(b"", 4097, &mut []), Err(refuse(9, 0)));
+    assert_eq!(put_text(b"AB", 2, &mut []), Err(refuse(9, 0)));
+    assert_eq!(put_text(b"\x1f", 9, &mut []), Err(refuse(9, 0)));
+    assert_eq!(put_text(b"\0", 9, &mut []), Err(refuse(9, 0)));
+    assert_eq!(put_text(b"A", 9, &mut out), Err(refuse(11, 9)));
+    assert_eq!(put_text(b"", 4096, &mut out), Err(refuse(11, 4096)));
     assert_eq!(writer::put_u8(1, &mut []), Err(refuse(11, 1)));
     assert_eq!(writer::put_u16(1, &mut out[..1]), Err(refuse(11, 2)));
     assert_eq!(writer::put_u32(1, &mut out[..3]), Err(refuse(11, 4)));
@@ -589,6 +772,76 @@ fn text_writer() {
     assert_eq!(writer::put_decimal(1, &mut out[..7]), Err(refuse(11, 8)));
     assert_eq!(writer::put_u16(0x0102, &mut out), Ok(2));
     assert_eq!(out[..3], [2, 1, 0]);
+}
+
+/// Document 02, item 8: the caller says which characters the text writer takes.
+#[test]
+fn text_writer_takes_the_set() {
+    for text in [&b"\x80"[..], b"\xFF", b"Caf\xE9", b"\x9F\xA0"] {
+        let mut out = [0xEE; 8];
+        let narrow = writer::put_text(text, 6, Allowed::Ascii, &mut out);
+        assert_eq!(narrow, Err(refuse(9, 0)));
+        assert_eq!(out, [0xEE; 8]);
+        let wide = writer::put_text(text, 6, Allowed::Accented, &mut out);
+        assert_eq!(wide, Ok(6));
+        assert_eq!(out[..6], padded(text, 6));
+        assert_eq!(out[6..], [0xEE; 2]);
+    }
+    for text in [&b"\x7F"[..], b"\xE9\x7F", b"\x1F", b"\0", b"\xE9\0"] {
+        for allowed in [Allowed::Ascii, Allowed::Accented] {
+            let mut out = [0xEE; 8];
+            let answer = writer::put_text(text, 6, allowed, &mut out);
+            assert_eq!(answer, Err(refuse(9, 0)));
+            assert_eq!(out, [0xEE; 8]);
+        }
+    }
+    // The width is looked at in both.
+    for allowed in [Allowed::Ascii, Allowed::Accented] {
+        for width in [0, 2, MOST + 1] {
+            let answer = writer::check_text(b"AB", width, allowed);
+            assert_eq!(answer, Err(refuse(9, 0)));
+        }
+        assert_eq!(writer::check_text(b"AB", 3, allowed), Ok(()));
+    }
+}
+
+/// What the parts of a message are written as.
+fn written_again(message: &[u8]) -> Result<Vec<u8>, Refusal> {
+    let mut map = [0; MAP_WIDTH];
+    map.copy_from_slice(&message[22..54]);
+    let given = ToWrite {
+        head: head(message[3], 3),
+        comp_id: US.to_vec(),
+        map,
+        body: message[54..message.len() - 4].to_vec(),
+    };
+    written_with(&given, MOST)
+}
+
+#[test]
+fn accented_texts_are_written() {
+    for text in [&b"\x80"[..], b"\xFF", b"Caf\xE9 M\xFCller", b"\x9F\xA0"] {
+        for FreeText { message, .. } in free_texts(text) {
+            assert_eq!(written_again(&message), Ok(message));
+        }
+        // The plain form has nothing behind the null.
+        let long = free_texts(&[text, b"\0\x7F\xE9"].concat());
+        for (long, short) in long.iter().zip(free_texts(text)) {
+            assert_eq!(written_again(&long.message), Ok(short.message));
+        }
+    }
+    for text in [&b"\x7F"[..], b"\xE9\x7F", b"\xE9\x1F"] {
+        for FreeText { message, position } in free_texts(text) {
+            let refused = Err(refuse(9, position as usize));
+            assert_eq!(written_again(&message), refused);
+        }
+    }
+    let logout = framed(6, 3, &[0], &variable(b"\xE9"));
+    assert_eq!(written_again(&logout), Err(refuse(9, 0)));
+    for comp_id in [&b"\x80"[..], b"RECORDER\xFF"] {
+        let answer = writer::write(&head(0, 1), comp_id, &map_of(&[]), &[], &mut [0; MOST]);
+        assert_eq!(answer, Err(refuse(6, 0)));
+    }
 }
 
 #[test]
@@ -746,7 +999,7 @@ fn one_text_a_character_shorter() {
         for short in make::texts(message_type) {
             let given = make::one_shorter(message_type, short);
             let less = match short {
-                Text::At(_, field) if field.sort == Sort::Variable => 1,
+                Text::At(_, field) if matches!(field.sort, Sort::Variable(_)) => 1,
                 _ => 0,
             };
             let length = tables::longest(message_type) - less;
@@ -961,7 +1214,7 @@ fn stops(mut session: Session, bytes: &[u8], code: u32) {
 #[test]
 fn session_states() {
     assert_eq!(state(&Session::fresh(US).unwrap()), (Phase::Down, 1, 1, 0));
-    for bad in [&b""[..], b"ABCDEFGHIJKL", b"A\x1f"] {
+    for bad in [&b""[..], b"ABCDEFGHIJKL", b"A\x1f", b"A\x80", b"\xff"] {
         assert_eq!(Session::fresh(bad), Err(refuse(6, 0)));
         assert_eq!(Session::saved(bad, 0, 5), Err(refuse(23, 0)));
         assert_eq!(Session::saved(bad, 5, 5), Err(refuse(6, 0)));
@@ -971,8 +1224,10 @@ fn session_states() {
     let mut session = Session::saved(US, 9, 5).unwrap();
     assert_eq!(session.step(&[]), only(20));
     let before = session.clone();
-    assert_eq!(session.connect(&[b'x'; 450]), Err(refuse(9, 0)));
-    assert_eq!(session, before);
+    for password in [&[b'x'; 450][..], b"\x7f", b"\x80", b"pw\xe9"] {
+        assert_eq!(session.connect(password), Err(refuse(9, 0)));
+        assert_eq!(session, before);
+    }
     let sent = session.connect(b"pw").unwrap();
     assert_eq!((sent.number, sent.next_expected), (5, 9));
     assert_eq!(sent.bytes(US), writer::logon(5, US, b"pw", 9));
@@ -1059,6 +1314,47 @@ fn session_besides() {
     for bytes in [good, business(2), logon(3, 4), resend(3, 0, 0)] {
         assert_eq!(live(3, 4).step(&bytes).besides, 0);
     }
+}
+
+/// Document 02, item 8: the session no longer stops at accented text.
+#[test]
+fn session_accented_texts() {
+    let taken = |sort| Answer {
+        row: row(sort, 3, 3),
+        ..NOTHING
+    };
+    let [reject, logon, _, business, text, reason] = free_texts(b"Caf\xE9 M\xFCller");
+    for (mut session, arrived, answer) in [
+        (
+            waiting(3, 4),
+            reject.message.clone(),
+            taken(RowSort::Session),
+        ),
+        (waiting(3, 4), logon.message, taken(RowSort::Session)),
+        (live(3, 4), reject.message, taken(RowSort::Session)),
+        (live(3, 4), business.message, taken(RowSort::Business)),
+        (live(3, 4), text.message, taken(RowSort::Business)),
+        (live(3, 4), reason.message, taken(RowSort::Business)),
+    ] {
+        let mut fast = plain::Session::of(&session);
+        assert_eq!(session.step(&arrived), answer);
+        assert_eq!(fast.step(&arrived), answer);
+        assert_eq!(session.e, 4);
+    }
+    // It does at 127, and at accented text in other fields.
+    for free_text in free_texts(b"Caf\xE9\x7F") {
+        let besides = free_text.position;
+        let answer = live(3, 4).step(&free_text.message);
+        assert_eq!(
+            answer,
+            Answer {
+                besides,
+                ..stopped(9, 4)
+            }
+        );
+    }
+    let logout = framed(6, 3, &[0], &variable(b"\xE9"));
+    stops(live(3, 4), &logout, 9);
 }
 
 /// A buffer as it was before a call, longer than every message to send.
@@ -2066,6 +2362,80 @@ fn plain_reads_as_reader() {
     assert!(seen.iter().all(|&count| count > 0), "{:?}", seen);
 }
 
+/// The characters that a message's text has, if the reader takes it.
+fn text_of(message: &[u8], text: Text) -> Result<&[u8], Refusal> {
+    reader::read(message)?;
+    match text {
+        Text::CompId => Ok(reader::comp_id(message)),
+        Text::At(position, _) => reader::ask_text(message, position as u32),
+    }
+}
+
+/// The bytes before a text's null are a good text, by the name of its field.
+fn is_good_text(name: &str, text: &[u8]) -> bool {
+    text.iter().all(|&byte| match byte {
+        32..=126 => true,
+        128..=255 => name == "Text" || name == "Reason",
+        _ => false,
+    })
+}
+
+/// Every text of every type with every value of a character, read and written,
+/// by the twin and by the plain side.
+#[test]
+fn every_text_with_every_character() {
+    for message_type in 0..=types::LAST {
+        for text in make::texts(message_type) {
+            let is_comp_id = text == Text::CompId;
+            let (name, refusal) = match text {
+                Text::CompId => ("Comp ID", refuse(wire::BAD_HEADER, 0)),
+                Text::At(position, field) => (field.name, refuse(wire::BAD_FIELD, position)),
+            };
+            for bytes in make::tried(text) {
+                let end = bytes.iter().position(|&byte| byte == 0);
+                let before = &bytes[..end.unwrap_or(bytes.len())];
+                // A Comp ID is not empty, and the writer takes it without a null.
+                let is_read = is_good_text(name, before) && !(is_comp_id && before.is_empty());
+                let is_written = is_read && !(is_comp_id && end.is_some());
+                let given = make::with_text(message_type, text, &bytes);
+                let message = make::framed(&given);
+                let read = if is_read { Ok(before) } else { Err(refusal) };
+                assert_eq!(text_of(&message, text), read, "{:?}", given);
+                assert_eq!(plain::read(&message), reader::read(&message));
+                let written = written_with(&given, MOST).err();
+                assert_eq!(written, (!is_written).then_some(refusal), "{:?}", given);
+            }
+        }
+    }
+}
+
+/// The maker gives accented characters to the texts that may have them, and to no
+/// others, and the reports that are measured have none.
+#[test]
+fn made_texts() {
+    let mut rng = Rng::new(24);
+    let is_accented = |byte: &u8| *byte >= 128;
+    let mut accented = 0;
+    for _ in 0..2_000 {
+        let message_type = make::message_type(&mut rng);
+        let message = make::message(&mut rng, message_type, 1, US);
+        for text in make::texts(message_type) {
+            let content = text_of(&message, text).unwrap_or_default();
+            if content.iter().any(is_accented) {
+                assert_eq!(text.allowed(), Allowed::Accented);
+                accented += 1;
+            }
+        }
+    }
+    assert!(accented > 200, "{}", accented);
+    for report in reports::reports(200) {
+        for text in make::texts(types::EXECUTION_REPORT) {
+            let content = text_of(&report, text).unwrap_or_default();
+            assert!(!content.iter().any(is_accented));
+        }
+    }
+}
+
 /// A good message of some type, in half of the cases spoiled.
 fn good_or_spoiled(rng: &mut Rng) -> Vec<u8> {
     let message_type = make::message_type(rng);
@@ -2083,7 +2453,7 @@ fn good_or_spoiled(rng: &mut Rng) -> Vec<u8> {
 fn plain_asks_as_reader() {
     let mut rng = Rng::new(9);
     let mut seen = [0u32; 15];
-    for _ in 0..1_500 {
+    for _ in 0..4_000 {
         let bytes = good_or_spoiled(&mut rng);
         for position in (0..70).chain([255, 256, 4_096, u32::MAX]) {
             let number = reader::ask_number(&bytes, position);
@@ -2302,6 +2672,8 @@ fn plain_takes_the_same_comp_ids() {
         b"ABCDEFGHIJKL",
         b"A\0B",
         b"A\x7f",
+        b"A\x80",
+        b"\xff",
         b" ~",
     ] {
         for (e, o) in [(0, 1), (1, 0), (1, 1), (LAST, LAST)] {

@@ -66,17 +66,39 @@ pub fn set(map: &mut [u8; MAP_WIDTH], position: usize) {
     map[position / 8] |= 1 << (7 - position % 8);
 }
 
-/// Characters of a text: 32 to 126.
-pub fn is_character(byte: u8) -> bool {
-    (32..=126).contains(&byte)
+/// The bytes that are characters of a text. Every text has one of these sets
+/// (document 02, item 8).
+#[derive(Clone, Copy, Debug, PartialEq, Eq)]
+pub enum Allowed {
+    /// 32 to 126: all texts but Text and Reason.
+    Ascii,
+    /// 32 to 126 and 128 to 255: Text and Reason.
+    Accented,
 }
 
-/// The part before the first null, if there is a null and only characters
-/// stand before it. What follows the null is discarded (004 section 6.1).
-pub fn before_null(bytes: &[u8]) -> Option<&[u8]> {
+impl Allowed {
+    /// Whether a byte is a character of the set. The null is in neither, since
+    /// it ends a text, and neither is 127.
+    pub fn allows(self, byte: u8) -> bool {
+        match self {
+            Allowed::Ascii => matches!(byte, 32..=126),
+            Allowed::Accented => matches!(byte, 32..=126 | 128..=255),
+        }
+    }
+
+    /// Whether all bytes are characters of the set.
+    pub fn allows_all(self, bytes: &[u8]) -> bool {
+        bytes.iter().all(|&byte| self.allows(byte))
+    }
+}
+
+/// The part before the first null, if there is a null and only characters of
+/// the set stand before it. What follows the null is discarded (004 section
+/// 6.1).
+pub fn before_null(bytes: &[u8], allowed: Allowed) -> Option<&[u8]> {
     let end = bytes.iter().position(|&byte| byte == 0)?;
     let text = &bytes[..end];
-    if text.iter().all(|&byte| is_character(byte)) {
+    if allowed.allows_all(text) {
         Some(text)
     } else {
         None
@@ -86,7 +108,7 @@ pub fn before_null(bytes: &[u8]) -> Option<&[u8]> {
 /// A Comp ID as its characters: not empty, and a null must still find place in
 /// the width.
 pub fn is_comp_id(text: &[u8]) -> bool {
-    !text.is_empty() && text.len() < COMP_ID_WIDTH && text.iter().all(|&byte| is_character(byte))
+    !text.is_empty() && text.len() < COMP_ID_WIDTH && Allowed::Ascii.allows_all(text)
 }
 
 /// A Decimal, a count of hundred-millionths, as the shortest exact decimal
@@ -134,14 +156,14 @@ fn take(position: usize, field: Field, rest: &[u8]) -> Option<Found<'_>> {
             }
             Some(found(field.width, &rest[..0]))
         }
-        Sort::Fixed => {
+        Sort::Fixed(allowed) => {
             if rest.len() < field.width {
                 return None;
             }
-            let text = before_null(&rest[..field.width])?;
+            let text = before_null(&rest[..field.width], allowed)?;
             Some(found(field.width, text))
         }
-        Sort::Variable => {
+        Sort::Variable(allowed) => {
             if rest.len() < TEXT_LENGTH {
                 return None;
             }
@@ -150,7 +172,7 @@ fn take(position: usize, field: Field, rest: &[u8]) -> Option<Found<'_>> {
             if length == 0 || length > field.width || rest.len() - TEXT_LENGTH < length {
                 return None;
             }
-            let text = before_null(&rest[TEXT_LENGTH..TEXT_LENGTH + length])?;
+            let text = before_null(&rest[TEXT_LENGTH..TEXT_LENGTH + length], allowed)?;
             Some(found(TEXT_LENGTH + length, text))
         }
     }

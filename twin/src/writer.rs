@@ -48,12 +48,12 @@ fn plain_body(fields: &[Found]) -> Vec<u8> {
     for found in fields {
         match found.field.sort {
             Sort::Number | Sort::Byte | Sort::Decimal => body.extend_from_slice(found.whole),
-            Sort::Fixed => {
+            Sort::Fixed(_) => {
                 let end = body.len() + found.field.width;
                 body.extend_from_slice(found.text);
                 body.resize(end, 0);
             }
-            Sort::Variable => {
+            Sort::Variable(_) => {
                 let length = found.text.len() as u16 + 1;
                 body.extend_from_slice(&length.to_le_bytes());
                 body.extend_from_slice(found.text);
@@ -125,18 +125,24 @@ pub fn put_decimal(value: i64, out: &mut [u8]) -> Result<usize, Refusal> {
 }
 
 /// What the text writer refuses with 9, position 0: a width of 0 or above
-/// 4,096, a bad character, or a text of more than its width less one.
-pub fn check_text(text: &[u8], width: usize) -> Result<(), Refusal> {
+/// 4,096, a character that is not in the set, or a text of more than its width
+/// less one.
+pub fn check_text(text: &[u8], width: usize, allowed: Allowed) -> Result<(), Refusal> {
     let good_width = width != 0 && width <= MOST;
-    if !good_width || text.len() > width - 1 || !text.iter().all(|&byte| is_character(byte)) {
+    if !good_width || text.len() > width - 1 || !allowed.allows_all(text) {
         return Err(refuse(BAD_FIELD, 0));
     }
     Ok(())
 }
 
 /// The text writer: the characters, then zeros up to the width.
-pub fn put_text(text: &[u8], width: usize, out: &mut [u8]) -> Result<usize, Refusal> {
-    check_text(text, width)?;
+pub fn put_text(
+    text: &[u8],
+    width: usize,
+    allowed: Allowed,
+    out: &mut [u8],
+) -> Result<usize, Refusal> {
+    check_text(text, width, allowed)?;
     let mut bytes = text.to_vec();
     bytes.resize(width, 0);
     put(&bytes, out)
@@ -176,7 +182,7 @@ pub fn logon(
     next_expected: u32,
 ) -> Result<Vec<u8>, Refusal> {
     let width = tables::PASSWORD.width;
-    check_text(password, width)?;
+    check_text(password, width, Allowed::Ascii)?;
     let mut body = password.to_vec();
     body.resize(width, 0);
     body.extend_from_slice(&next_expected.to_le_bytes());

@@ -9,7 +9,7 @@ use native.Mathlib.Omega.{arith}
 use lib.Dec.{eqb, leb}
 use lib.ListN.{length, drop, length-drop}
 use borrow.Author.Tests.{le-leb, leb-true, eq-eqb, ne-eqb, eqb-true, eqb-false}
-use Rattle.wire.proofs.TestLaws.{either}
+use Rattle.wire.proofs.TestLaws.{and-true, either}
 use Rattle.message.specs.Frame.{framed, frontLength}
 use Rattle.message.specs.Read.{readFramed, readOf}
 use Rattle.session.specs.declared.state.Code.{Code}
@@ -47,7 +47,6 @@ use Rattle.calls.specs.Steps.{
   course,
 }
 use Rattle.session.proofs.StepLaws.{front-within, short-code, short-needs, step-uses}
-use Rattle.session.proofs.TurnLaws.{and-true}
 
 -- the numbers of rows, and of messages to send, one after another
 pub numbers-rows : (xs ys : List Placed) → rowNumbers (xs ++ ys) ≡ rowNumbers xs ++ rowNumbers ys

@@ -8,6 +8,7 @@ use mathlib.Core.Logic.{_⊎_}
 use native.Mathlib.Omega.{arith}
 use lib.Dec.{eqb}
 use lib.ListN.{length}
+use Rattle.wire.specs.declared.text.Allowed.the-variants.{Ascii}
 use Rattle.wire.specs.Text.{fixedPart}
 use Rattle.wire.proofs.TestLaws.{either}
 use Rattle.tables.specs.Dictionary.{entry, sortOf, widthOf}
@@ -93,26 +94,26 @@ module _ (c : CSession) (password : List ℕ) (z : connectC c password .refusal 
   module _ (d : List ℕ) where
     -- these are what the Logon bears
     waiting-answers : logonC (shownSession (waits (sessionIn c) .session)) password d
-        ≡ shownWritten (logonOf (c .own) password (c .expected) (fixedPart 12 (c .ours)) d)
+        ≡ shownWritten (logonOf (c .own) password (c .expected) (fixedPart Ascii 12 (c .ours)) d)
     unfolding logonC
-    waiting-answers = rw waiting-passes (ap (λ (n : ℕ). shownWritten (logonOf n password (c .expected) (fixedPart 12 (c .ours)) d)) back)
+    waiting-answers = rw waiting-passes (ap (λ (n : ℕ). shownWritten (logonOf n password (c .expected) (fixedPart Ascii 12 (c .ours)) d)) back)
 
-    waiting-lays : logonSentC (shownSession (waits (sessionIn c) .session)) password d ≡ logonSent (c .own) password (c .expected) (fixedPart 12 (c .ours)) d
+    waiting-lays : logonSentC (shownSession (waits (sessionIn c) .session)) password d ≡ logonSent (c .own) password (c .expected) (fixedPart Ascii 12 (c .ours)) d
     unfolding logonSentC
-    waiting-lays = rw waiting-passes (ap (λ (n : ℕ). logonSent n password (c .expected) (fixedPart 12 (c .ours)) d) back)
+    waiting-lays = rw waiting-passes (ap (λ (n : ℕ). logonSent n password (c .expected) (fixedPart Ascii 12 (c .ours)) d) back)
 
     pub logon-answers : logonC (connectC c password .session) password d
-        ≡ shownWritten (logonOf (connectC c password .number) password (connectC c password .next) (fixedPart 12 (c .ours)) d)
+        ≡ shownWritten (logonOf (connectC c password .number) password (connectC c password .next) (fixedPart Ascii 12 (c .ours)) d)
     unfolding shownConnected
     logon-answers =
-        subst (λ (x : CConnected). logonC (x .session) password d ≡ shownWritten (logonOf (x .number) password (x .next) (fixedPart 12 (c .ours)) d))
+        subst (λ (x : CConnected). logonC (x .session) password d ≡ shownWritten (logonOf (x .number) password (x .next) (fixedPart Ascii 12 (c .ours)) d))
         (sym shown-told) waiting-answers
 
     pub logon-lays : logonSentC (connectC c password .session) password d
-        ≡ logonSent (connectC c password .number) password (connectC c password .next) (fixedPart 12 (c .ours)) d
+        ≡ logonSent (connectC c password .number) password (connectC c password .next) (fixedPart Ascii 12 (c .ours)) d
     unfolding shownConnected
     logon-lays =
-        subst (λ (x : CConnected). logonSentC (x .session) password d ≡ logonSent (x .number) password (x .next) (fixedPart 12 (c .ours)) d)
+        subst (λ (x : CConnected). logonSentC (x .session) password d ≡ logonSent (x .number) password (x .next) (fixedPart Ascii 12 (c .ours)) d)
         (sym shown-told) waiting-lays
 
     -- it is laid down in a buffer that has its length, and else refused with 11
@@ -120,7 +121,7 @@ module _ (c : CSession) (password : List ℕ) (z : connectC c password .refusal 
     unfolding shownConnected
     logon-by-room =
         ap (λ (x : CConnected). logonC (x .session) password d) shown-told ∙ waiting-answers
-        ∙ connects .laid (c .own) (c .expected) (fixedPart 12 (c .ours)) d (own-counted c passes) (comp-id-good c passes)
+        ∙ connects .laid (c .own) (c .expected) (fixedPart Ascii 12 (c .ours)) d (own-counted c passes) (comp-id-good c passes)
 
     pub logon-laid : (logonC (connectC c password .session) password d .refusal ≡ 0) ⊎ (logonC (connectC c password .session) password d .refusal ≡ 11)
     logon-laid = subst (λ (w : CWritten). (w .refusal ≡ 0) ⊎ (w .refusal ≡ 11)) (sym logon-by-room) (room-refuses logonSize (length d))

@@ -10,9 +10,10 @@ use native.Mathlib.Omega.{arith}
 use lib.Dec.{eqb, leb, ltb}
 use lib.ListN.{length, getD, replicate, length-replicate}
 use borrow.Author.Tests.{le-leb, lt-ltb, leb-true, ltb-true, eqb-true}
+use Rattle.wire.specs.declared.text.Allowed.the-variants.{Ascii}
 use Rattle.wire.specs.Number.{Bytes}
 use Rattle.wire.specs.Text.{fixedPart}
-use Rattle.wire.proofs.TestLaws.{both, either}
+use Rattle.wire.proofs.TestLaws.{and-true, both, either}
 use Rattle.message.specs.declared.refusal.Refusal.the-variants.{NoRoom}
 use Rattle.message.specs.declared.vet.Vetted.{Vetted}
 use Rattle.message.specs.Refusal.{numberOf, besidesOf}
@@ -35,7 +36,6 @@ use Rattle.capi.specs.declared.shape.CWritten.{CWritten}
 use Rattle.capi.specs.Sessions.{sessionIn, isSession, toSend, shownSend, shownStepped, stepC, isOurNumber, isSend, outgoingOf, sendBy, sendC}
 use Rattle.capi.specs.Sizes.{sendSize, byRoom}
 use Rattle.capi.specs.Writing.{wrote, shownWritten}
-use Rattle.session.proofs.TurnLaws.{and-true}
 use Rattle.capi.proofs.SessionLaws.{checked, standing-in, step-passes}
 
 -- what can be given passes
@@ -139,9 +139,9 @@ module _ (x : Outgoing) (compId : List ℕ) (n : ℕ) (w : (z : List ℕ) → n 
       ∙ shown (leb n (length d))
 
 -- a session that passes has a good Comp ID
-pub comp-id-good : (c : CSession) → isSession c ≡ true → goodCompId (fixedPart 12 (c .ours)) ≡ true
+pub comp-id-good : (c : CSession) → isSession c ≡ true → goodCompId (fixedPart Ascii 12 (c .ours)) ≡ true
 unfolding isPlainCompId
-comp-id-good c h = both (goodCompId (fixedPart 12 (c .ours))) _ (checked c h .plain) .0
+comp-id-good c h = both (goodCompId (fixedPart Ascii 12 (c .ours))) _ (checked c h .plain) .0
 
 size-within : (kind : ℕ) → sendSize kind ≤ 66
 unfolding sendSize
@@ -153,7 +153,7 @@ size-within kind =
 
 module _ (c : CSession) (h : isSession c ≡ true) where
   abbrev compId : List ℕ
-  compId = fixedPart 12 (c .ours)
+  compId = fixedPart Ascii 12 (c .ours)
 
   sent-as : (x : CSend) → isSend x ≡ true → eqb (x .kind) 0 ≡ false → (n : ℕ) → ((z : List ℕ) → n ≤ length z → sendOf (outgoingOf x) compId z ≡ Wrote n)
       → (d : List ℕ) → sendC c x d ≡ byRoom n (length d)

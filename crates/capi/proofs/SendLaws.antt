@@ -1,11 +1,10 @@
 -- Laws of the messages to send that a step can give, as C has them.
-use Prim.Native.Nat.{ℕ, _≤_}
-use mathlib.Core.Path.{_≡_, refl, sym, _∙_}
-use mathlib.Core.Bool.{Bool, true, false, _&&_}
-use native.Mathlib.Omega.{arith}
+use Prim.Native.Nat.{_≤_}
+use mathlib.Core.Path.{_≡_}
+use mathlib.Core.Bool.{true, _&&_}
 use lib.Dec.{eqb, leb}
 use borrow.Author.Tests.{leb-true}
-use Rattle.session.proofs.TurnLaws.{and-true}
+use Rattle.wire.proofs.TestLaws.{and-true}
 use Rattle.capi.specs.declared.shape.CSend.{CSend}
 use Rattle.capi.specs.Sessions.{isOurNumber, isSend}
 

@@ -7,6 +7,7 @@ use lib.Dec.{eqb}
 use borrow.Author.Tests.{eqb-false}
 use Rattle.tables.specs.declared.dictionary.Field.the-variants.{Password}
 use Rattle.tables.specs.Dictionary.{sortOf, widthOf}
+use Rattle.wire.specs.declared.text.Allowed.the-variants.{Ascii}
 use Rattle.wire.specs.Text.{takes}
 use Rattle.wire.proofs.TestLaws.{either}
 use Rattle.message.specs.declared.refusal.Refusal.the-variants.{BadHeader}
@@ -59,7 +60,7 @@ down-connected s password d h =
     let P : Connected → Type 0 = λ r. Standing (r .session) in
     subst (λ (p : State). P (connectIn p s password)) (sym d)
     (either P (eqb (s .own) last) (λ t. h)
-    (λ t. either P (takes (widthOf (sortOf Password)) password)
+    (λ t. either P (takes Ascii (widthOf (sortOf Password)) password)
     (λ u. none-standing (moved s Waiting (s .expected) (s .own + 1) (s .ahead)) (h .expected) (omega arith) (h .ahead .down d) (λ v. omega (arith, h .own)))
     (λ u. h)))
 

@@ -37,6 +37,7 @@ use session::state::first_of;
 use session::state::last_of;
 use session::state::sort_number;
 use session::state::told;
+use wire::text::Allowed;
 use wire::text::fixed_part;
 use writer::send::put_gap_fill;
 use writer::send::put_heartbeat_for;
@@ -411,7 +412,7 @@ pub fn send_c(d: &mut [u8], c: CSession, x: CSend) -> CWritten
         return wrote(NOT_A_SEND, 0, 0);
     }
     let ours = c.ours;
-    put_send(d, x, fixed_part(COMP_ID_BYTES, &ours))
+    put_send(d, x, fixed_part(Allowed::Ascii, COMP_ID_BYTES, &ours))
 }
 
 // Connect's Logon, as bytes at the front of d: a Waiting session's number and Next Expected.
@@ -430,7 +431,7 @@ pub fn logon_c(d: &mut [u8], c: CSession, password: &[u8]) -> CWritten
     let ours = c.ours;
     written_shown(put_logon(
         d,
-        fixed_part(COMP_ID_BYTES, &ours),
+        fixed_part(Allowed::Ascii, COMP_ID_BYTES, &ours),
         c.own - 1,
         password,
         c.expected,

@@ -8,6 +8,7 @@ use borrow.Author.Tests.{le-leb}
 use lib.Dec.{leb}
 use lib.ListN.{length, take, drop, drop-of-length-le, length-append, length-drop, take-append-drop}
 use lib.Seq.{take-at, drop-at, drop-drop, length-take-le}
+use Rattle.wire.specs.declared.text.Allowed.{Allowed}
 use Rattle.wire.specs.declared.laying.Laid.the-variants.{Wrote, NoRoom}
 use Rattle.wire.specs.Laying.{besides, laid, laidAnswer}
 use Rattle.wire.specs.Number.{numberBytes}
@@ -113,6 +114,6 @@ front-own k d h =
     }
 
 -- the text writer lays a text that it takes
-pub fixed-laid : (w : ℕ) (t d : List ℕ) → takes w t ≡ true → fixedLaid w t d ≡ laid (fixedBytes w t) d
+pub fixed-laid : (allowed : Allowed) (w : ℕ) (t d : List ℕ) → takes allowed w t ≡ true → fixedLaid allowed w t d ≡ laid (fixedBytes w t) d
 unfolding fixedLaid
-fixed-laid w t d h = rw h
+fixed-laid allowed w t d h = rw h

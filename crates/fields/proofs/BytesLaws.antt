@@ -81,8 +81,8 @@ sort-bytes (Number w) s b = bytes-take w s b
 sort-bytes Decimal s b = bytes-take 8 s b
 sort-bytes Byte s b = bytes-take 1 s b
 sort-bytes YesNo s b = bytes-take 1 s b
-sort-bytes (Fixed w) s b = bytes-fixed w (fixedPart w s) (part-bytes (fixedText w s) s b)
-sort-bytes (Variable w) s b = bytes-variable (variablePart w s) (part-bytes (variableText w s) (drop 2 s) (bytes-drop 2 s b))
+sort-bytes (Fixed allowed w) s b = bytes-fixed w (fixedPart allowed w s) (part-bytes (fixedText allowed w s) s b)
+sort-bytes (Variable allowed w) s b = bytes-variable (variablePart allowed w s) (part-bytes (variableText allowed w s) (drop 2 s) (bytes-drop 2 s b))
 
 row-bytes : (row : Row) (s : List ℕ) → Bytes s → Bytes (plainRow row s)
 unfolding plainRow

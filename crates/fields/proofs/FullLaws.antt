@@ -9,6 +9,8 @@ use native.Mathlib.Nat.{eq-or-lt-of-le, zero-add, add-zero}
 use native.Mathlib.Omega.{arith}
 use lib.ListN.{length, replicate, length-replicate}
 use lib.Seq.{drop-at}
+use Rattle.wire.specs.declared.text.Allowed.{Allowed}
+use Rattle.wire.specs.declared.text.Allowed.the-variants.{Ascii, Accented}
 use Rattle.tables.specs.declared.dictionary.Sort.{Sort}
 use Rattle.tables.specs.declared.dictionary.Sort.the-variants.{Number, Decimal, Byte, YesNo, Fixed, Variable}
 use Rattle.tables.specs.declared.table.Row.{Row}
@@ -39,21 +41,22 @@ use Rattle.fields.proofs.WidthLaws.{width-least, width-most}
 abbrev pub letters : ℕ → List ℕ
 letters n = replicate n yes
 
-all-letters : (n : ℕ) → allCharacters (letters n) ≡ true
+all-letters : (allowed : Allowed) (n : ℕ) → allCharacters allowed (letters n) ≡ true
 unfolding allCharacters isCharacter
-all-letters zero = refl
-all-letters (suc n) = all-letters n
+all-letters allowed zero = refl
+all-letters Ascii (suc n) = all-letters Ascii n
+all-letters Accented (suc n) = all-letters Accented n
 
 -- one fewer than its width fill a text
 text-full : (w : ℕ) → 1 ≤ w → length (letters (w - 1)) + 1 ≡ w
 text-full w l = rw (length-replicate {A = ℕ} (w - 1) yes) (omega arith)
 
-text-takes : (w : ℕ) → 1 ≤ w → w ≤ 4096 → takes w (letters (w - 1)) ≡ true
-text-takes w l m = takes-by-characters w (letters (w - 1)) (omega (arith, text-full w l)) m ∙ all-letters (w - 1)
+text-takes : (allowed : Allowed) (w : ℕ) → 1 ≤ w → w ≤ 4096 → takes allowed w (letters (w - 1)) ≡ true
+text-takes allowed w l m = takes-by-characters allowed w (letters (w - 1)) (omega (arith, text-full w l)) m ∙ all-letters allowed (w - 1)
 
 -- a full field
 unfoldable pub fullSort : Sort → List ℕ
-fullSort sort = bySort letters (λ w. fixedBytes w (letters (w - 1))) (λ w. variableBytes (letters (w - 1))) sort
+fullSort sort = bySort letters (λ allowed w. fixedBytes w (letters (w - 1))) (λ allowed w. variableBytes (letters (w - 1))) sort
 
 full-size : (sort : Sort) → 1 ≤ widthOf sort → length (fullSort sort) ≡ mostOf sort
 unfolding widthOf fullSort mostOf
@@ -61,8 +64,8 @@ full-size (Number w) l = length-replicate {A = ℕ} w yes
 full-size Decimal l = refl
 full-size Byte l = refl
 full-size YesNo l = refl
-full-size (Fixed w) l = length-fixedBytes w (letters (w - 1)) (omega (arith, text-full w l))
-full-size (Variable w) l = length-variableBytes (letters (w - 1)) ∙ omega (arith, text-full w l)
+full-size (Fixed allowed w) l = length-fixedBytes w (letters (w - 1)) (omega (arith, text-full w l))
+full-size (Variable allowed w) l = length-variableBytes (letters (w - 1)) ∙ omega (arith, text-full w l)
 
 full-good : (sort : Sort) → 1 ≤ widthOf sort → widthOf sort ≤ 4096 → (r : List ℕ) → checkSort sort (fullSort sort ++ r) ≡ Good (mostOf sort) (mostOf sort)
 unfolding widthOf checkSort fixed fixedTaken variable variableTaken yesNo fullSort mostOf
@@ -70,10 +73,10 @@ full-good (Number w) l m r = whole-of w (letters w) r (length-replicate {A = ℕ
 full-good Decimal l m r = whole-of 8 (letters 8) r refl
 full-good Byte l m r = whole-of 1 (letters 1) r refl
 full-good YesNo l m r = refl
-full-good (Fixed w) l m r = ap fixedTaken (fixed-again w (letters (w - 1)) r (text-takes w l m))
-full-good (Variable w) l m r =
+full-good (Fixed allowed w) l m r = ap fixedTaken (fixed-again allowed w (letters (w - 1)) r (text-takes allowed w l m))
+full-good (Variable allowed w) l m r =
     let e : length (letters (w - 1)) + 3 ≡ 2 + w = omega (arith, text-full w l) in
-    ap variableTaken (variable-again w (letters (w - 1)) r (text-takes w l m)) ∙ ap (λ (n : ℕ). Good n n) e
+    ap variableTaken (variable-again allowed w (letters (w - 1)) r (text-takes allowed w l m)) ∙ ap (λ (n : ℕ). Good n n) e
 
 -- the field that a row names, and all that the rows name at the n positions from p on
 unfoldable pub fullAt : Row → List ℕ
@@ -110,8 +113,8 @@ sort-bytes (Number w) = bytes-replicate w yes (omega arith)
 sort-bytes Decimal = bytes-replicate 8 yes (omega arith)
 sort-bytes Byte = bytes-replicate 1 yes (omega arith)
 sort-bytes YesNo = bytes-replicate 1 yes (omega arith)
-sort-bytes (Fixed w) = bytes-fixed w (letters (w - 1)) (bytes-replicate (w - 1) yes (omega arith))
-sort-bytes (Variable w) = bytes-variable (letters (w - 1)) (bytes-replicate (w - 1) yes (omega arith))
+sort-bytes (Fixed allowed w) = bytes-fixed w (letters (w - 1)) (bytes-replicate (w - 1) yes (omega arith))
+sort-bytes (Variable allowed w) = bytes-variable (letters (w - 1)) (bytes-replicate (w - 1) yes (omega arith))
 
 row-bytes : (row : Row) → Bytes (fullAt row)
 unfolding fullAt

@@ -29,12 +29,12 @@ sort-most (Number w) taken plain s h = omega (arith, whole-good w s taken plain 
 sort-most Decimal taken plain s h = omega (arith, whole-good 8 s taken plain h .extent)
 sort-most Byte taken plain s h = omega (arith, whole-good 1 s taken plain h .extent)
 sort-most YesNo taken plain s h = omega (arith, yes-no-good s taken plain h .extent)
-sort-most (Fixed w) taken plain s h =
-    let g = fixed-checked w s taken plain h .text in
-    omega (arith, fixed-good w s (g .characters) taken (g .good) .extent)
-sort-most (Variable size) taken plain s h =
-    let g = variable-checked size s taken plain h .text in
-    let v = variable-good size s (g .characters) taken (g .good) in
+sort-most (Fixed allowed w) taken plain s h =
+    let g = fixed-checked allowed w s taken plain h .text in
+    omega (arith, fixed-good allowed w s (g .characters) taken (g .good) .extent)
+sort-most (Variable allowed size) taken plain s h =
+    let g = variable-checked allowed size s taken plain h .text in
+    let v = variable-good allowed size s (g .characters) taken (g .good) in
     let m : number (take 2 s) ≤ size = v .most in
     omega (arith, v .extent)
 

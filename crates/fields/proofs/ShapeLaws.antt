@@ -7,6 +7,7 @@ use native.Mathlib.Omega.{arith}
 use lib.Dec.{eqb}
 use lib.ListN.{take}
 use borrow.Author.Tests.{eqb-true}
+use Rattle.wire.specs.declared.text.Allowed.{Allowed}
 use Rattle.tables.specs.declared.dictionary.Field.{Field}
 use Rattle.tables.specs.declared.dictionary.Sort.{Sort}
 use Rattle.tables.specs.declared.dictionary.Sort.the-variants as sort
@@ -43,10 +44,10 @@ record Sorted (sort : Sort) (s : List ℕ) (c : Checked) (n : ℕ) (x : List ℕ
 number-decimal : {A : Type 0} {w : ℕ} → Number w ≡ Decimal → A
 number-decimal e = let z : _≡_ {A = ℕ} 0 1 = cc in absurd (omega arith)
 
-number-fixed : {A : Type 0} {v w : ℕ} → Number v ≡ Fixed w → A
+number-fixed : {A : Type 0} {v : ℕ} {allowed : Allowed} {w : ℕ} → Number v ≡ Fixed allowed w → A
 number-fixed e = let z : _≡_ {A = ℕ} 0 1 = cc in absurd (omega arith)
 
-decimal-fixed : {A : Type 0} {w : ℕ} → Decimal ≡ Fixed w → A
+decimal-fixed : {A : Type 0} {allowed : Allowed} {w : ℕ} → Decimal ≡ Fixed allowed w → A
 decimal-fixed e = let z : _≡_ {A = ℕ} 0 1 = cc in absurd (omega arith)
 
 number-other : {A : Type 0} {w : ℕ} → Number w ≡ Other → A
@@ -55,7 +56,7 @@ number-other e = let z : _≡_ {A = ℕ} 0 1 = cc in absurd (omega arith)
 decimal-other : {A : Type 0} → Decimal ≡ Other → A
 decimal-other e = let z : _≡_ {A = ℕ} 0 1 = cc in absurd (omega arith)
 
-fixed-other : {A : Type 0} {w : ℕ} → Fixed w ≡ Other → A
+fixed-other : {A : Type 0} {allowed : Allowed} {w : ℕ} → Fixed allowed w ≡ Other → A
 fixed-other e = let z : _≡_ {A = ℕ} 0 1 = cc in absurd (omega arith)
 
 -- a sort whose shape is a number of so many bytes
@@ -71,8 +72,8 @@ sort-number sort.Byte s w h =
     subst (λ (n : ℕ). Sorted sort.Byte s (whole n s) n (take n s) (numberValue n s)) e
     (record { check = refl; taken = refl; plain = refl; value = refl })
 sort-number sort.YesNo s w h = number-other (sym h)
-sort-number (sort.Fixed v) s w h = number-fixed (sym h)
-sort-number (sort.Variable v) s w h = number-other (sym h)
+sort-number (sort.Fixed allowed v) s w h = number-fixed (sym h)
+sort-number (sort.Variable allowed v) s w h = number-other (sym h)
 
 -- a Decimal
 sort-decimal : (x : Sort) (s : List ℕ) → shapeIn x ≡ Decimal → Sorted x s (whole 8 s) 8 (take 8 s) (decimalValue s)
@@ -81,22 +82,24 @@ sort-decimal (sort.Number v) s h = number-decimal h
 sort-decimal sort.Decimal s h = record { check = refl; taken = refl; plain = refl; value = refl }
 sort-decimal sort.Byte s h = number-decimal h
 sort-decimal sort.YesNo s h = decimal-other (sym h)
-sort-decimal (sort.Fixed v) s h = decimal-fixed (sym h)
-sort-decimal (sort.Variable v) s h = decimal-other (sym h)
+sort-decimal (sort.Fixed allowed v) s h = decimal-fixed (sym h)
+sort-decimal (sort.Variable allowed v) s h = decimal-other (sym h)
 
 -- a fixed text of so many bytes
-sort-fixed : (x : Sort) (s : List ℕ) (w : ℕ) → shapeIn x ≡ Fixed w
-    → Sorted x s (fixed w s) w (fixedBytes w (fixedPart w s)) (textValue (fixedText w s))
+sort-fixed : (x : Sort) (s : List ℕ) (allowed : Allowed) (w : ℕ) → shapeIn x ≡ Fixed allowed w
+    → Sorted x s (fixed allowed w s) w (fixedBytes w (fixedPart allowed w s)) (textValue (fixedText allowed w s))
 unfolding shapeIn checkSort extent plainSort sortValue
-sort-fixed (sort.Number v) s w h = number-fixed h
-sort-fixed sort.Decimal s w h = decimal-fixed h
-sort-fixed sort.Byte s w h = number-fixed h
-sort-fixed sort.YesNo s w h = fixed-other (sym h)
-sort-fixed (sort.Fixed v) s w h =
+sort-fixed (sort.Number v) s allowed w h = number-fixed h
+sort-fixed sort.Decimal s allowed w h = decimal-fixed h
+sort-fixed sort.Byte s allowed w h = number-fixed h
+sort-fixed sort.YesNo s allowed w h = fixed-other (sym h)
+sort-fixed (sort.Fixed a v) s allowed w h =
     let e : v ≡ w = cc in
-    subst (λ (n : ℕ). Sorted (sort.Fixed v) s (fixed n s) n (fixedBytes n (fixedPart n s)) (textValue (fixedText n s))) e
-    (record { check = refl; taken = refl; plain = refl; value = refl })
-sort-fixed (sort.Variable v) s w h = fixed-other (sym h)
+    let f : a ≡ allowed = cc in
+    subst (λ (n : ℕ). Sorted (sort.Fixed a v) s (fixed allowed n s) n (fixedBytes n (fixedPart allowed n s)) (textValue (fixedText allowed n s))) e
+    (subst (λ (x : Allowed). Sorted (sort.Fixed a v) s (fixed x v s) v (fixedBytes v (fixedPart x v s)) (textValue (fixedText x v s))) f
+    (record { check = refl; taken = refl; plain = refl; value = refl }))
+sort-fixed (sort.Variable a v) s allowed w h = fixed-other (sym h)
 
 -- a row that names a field says what the field's sort says
 module _ (s : List ℕ) (c : Checked) (n : ℕ) (x : List ℕ) (v : Value) where
@@ -125,13 +128,13 @@ shape-decimal UnknownPosition s h = decimal-other (sym h)
 shape-decimal UnknownType s h = decimal-other (sym h)
 
 -- a fixed text of so many bytes
-pub shape-fixed : (row : Row) (s : List ℕ) (w : ℕ) → shapeOf row ≡ Fixed w
-    → Told row s (fixed w s) w (fixedBytes w (fixedPart w s)) (textValue (fixedText w s))
+pub shape-fixed : (row : Row) (s : List ℕ) (allowed : Allowed) (w : ℕ) → shapeOf row ≡ Fixed allowed w
+    → Told row s (fixed allowed w s) w (fixedBytes w (fixedPart allowed w s)) (textValue (fixedText allowed w s))
 unfolding shapeOf
-shape-fixed (Required f) s w h = of-required s _ _ _ _ f (sort-fixed (sortOf f) s w h)
-shape-fixed (Optional f) s w h = of-optional s _ _ _ _ f (sort-fixed (sortOf f) s w h)
-shape-fixed UnknownPosition s w h = fixed-other (sym h)
-shape-fixed UnknownType s w h = fixed-other (sym h)
+shape-fixed (Required f) s allowed w h = of-required s _ _ _ _ f (sort-fixed (sortOf f) s allowed w h)
+shape-fixed (Optional f) s allowed w h = of-optional s _ _ _ _ f (sort-fixed (sortOf f) s allowed w h)
+shape-fixed UnknownPosition s allowed w h = fixed-other (sym h)
+shape-fixed UnknownType s allowed w h = fixed-other (sym h)
 
 -- a shape that was worked out is that of the row
 pub shape-at : (messagetype p : ℕ) (x : Shape) → shapeAt messagetype p ≡ x → (x ≡ Other → ⊥) → shapeOf (rowOf messagetype p) ≡ x
@@ -150,6 +153,6 @@ module _ (messagetype p : ℕ) (s : List ℕ) where
   pub at-decimal : shapeAt messagetype p ≡ Decimal → Told (rowOf messagetype p) s (whole 8 s) 8 (take 8 s) (decimalValue s)
   at-decimal h = shape-decimal (rowOf messagetype p) s (shape-at messagetype p Decimal h decimal-other)
 
-  pub at-fixed : (w : ℕ) → shapeAt messagetype p ≡ Fixed w
-      → Told (rowOf messagetype p) s (fixed w s) w (fixedBytes w (fixedPart w s)) (textValue (fixedText w s))
-  at-fixed w h = shape-fixed (rowOf messagetype p) s w (shape-at messagetype p (Fixed w) h fixed-other)
+  pub at-fixed : (allowed : Allowed) (w : ℕ) → shapeAt messagetype p ≡ Fixed allowed w
+      → Told (rowOf messagetype p) s (fixed allowed w s) w (fixedBytes w (fixedPart allowed w s)) (textValue (fixedText allowed w s))
+  at-fixed allowed w h = shape-fixed (rowOf messagetype p) s allowed w (shape-at messagetype p (Fixed allowed w) h fixed-other)

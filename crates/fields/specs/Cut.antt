@@ -19,7 +19,7 @@ positions m (suc n) p = cond (present m p) (p ∷ positions m n (suc p)) (positi
 
 -- how many bytes a field takes: its width, and a variable text its two bytes of length and as many as they say
 unfoldable pub extent : Sort → List ℕ → ℕ
-extent sort s = bySort (λ w. w) (λ w. w) (λ w. 2 + number (take 2 s)) sort
+extent sort s = bySort (λ w. w) (λ allowed w. w) (λ allowed w. 2 + number (take 2 s)) sort
 
 -- the field that a row names, at the front of s; none takes none
 unfoldable pub extentOf : Row → List ℕ → ℕ

@@ -18,8 +18,8 @@ shapeIn (sort.Number width) = Number width
 shapeIn sort.Decimal = Decimal
 shapeIn sort.Byte = Number 1
 shapeIn sort.YesNo = Other
-shapeIn (sort.Fixed width) = Fixed width
-shapeIn (sort.Variable size) = Other
+shapeIn (sort.Fixed allowed width) = Fixed allowed width
+shapeIn (sort.Variable allowed size) = Other
 
 -- the field that a row names
 unfoldable pub shapeOf : Row → Shape

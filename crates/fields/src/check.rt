@@ -6,6 +6,7 @@ use tables::dictionary::sort_of;
 use tables::table::EXECUTION_REPORT;
 use tables::table::Row;
 use tables::table::row_of;
+use wire::text::Allowed;
 use wire::text::Text;
 use wire::text::fixed_text;
 use wire::text::variable_text;
@@ -53,10 +54,10 @@ fn check_yes_no(s: &[u8]) -> Checked
     }
 }
 
-fn check_fixed(width: usize, s: &[u8]) -> Checked
-    ensures { λ r. ⌜ r ≡ fixed width (now (s .entry)) ⌝ }
+fn check_fixed(allowed: Allowed, width: usize, s: &[u8]) -> Checked
+    ensures { λ r. ⌜ r ≡ fixed allowed width (now (s .entry)) ⌝ }
 {
-    match fixed_text(width, s) {
+    match fixed_text(allowed, width, s) {
         Text::Good {
             characters: _,
             taken,
@@ -69,10 +70,10 @@ fn check_fixed(width: usize, s: &[u8]) -> Checked
 }
 
 // The plain form of a variable text has two bytes of length, its characters and the null.
-fn check_variable(size: usize, s: &[u8]) -> Checked
-    ensures { λ r. ⌜ r ≡ variable size (now (s .entry)) ⌝ }
+fn check_variable(allowed: Allowed, size: usize, s: &[u8]) -> Checked
+    ensures { λ r. ⌜ r ≡ variable allowed size (now (s .entry)) ⌝ }
 {
-    match variable_text(size, s) {
+    match variable_text(allowed, size, s) {
         Text::Good { characters, taken } => Checked::Good {
             taken,
             plain: characters + 3,
@@ -90,8 +91,8 @@ fn check_sort(sort: Sort, s: &[u8]) -> Checked
         Sort::Decimal => check_whole(8, s),
         Sort::Byte => check_whole(1, s),
         Sort::YesNo => check_yes_no(s),
-        Sort::Fixed(width) => check_fixed(width, s),
-        Sort::Variable(size) => check_variable(size, s),
+        Sort::Fixed(allowed, width) => check_fixed(allowed, width, s),
+        Sort::Variable(allowed, size) => check_variable(allowed, size, s),
     }
 }
 
@@ -120,12 +121,12 @@ fn check_named(messagetype: u8, p: usize, s: &[u8]) -> Checked
     check_row(messagetype, p, s)
 }
 
-// What a quick look at a field needs to know: a number of so many bytes, a Decimal, or a fixed text of so many. Every other
-// field is looked up by its name.
+// What a quick look at a field needs to know: a number of so many bytes, a Decimal, or a fixed text of these characters and of
+// so many bytes. Every other field is looked up by its name.
 pub enum Shape {
     Number(usize),
     Decimal,
-    Fixed(usize),
+    Fixed(Allowed, usize),
     Other,
 }
 
@@ -134,25 +135,25 @@ fn report_shape(p: usize) -> Shape
     ensures { λ r. ⌜ r ≡ shapeOf (rowOf executionReportType p) ⌝ }
 {
     match p {
-        0 => Shape::Fixed(21),
-        1 => Shape::Fixed(12),
-        2 => Shape::Fixed(21),
+        0 => Shape::Fixed(Allowed::Ascii, 21),
+        1 => Shape::Fixed(Allowed::Ascii, 12),
+        2 => Shape::Fixed(Allowed::Ascii, 21),
         3 => Shape::Number(1),
-        4 => Shape::Fixed(5),
-        5 => Shape::Fixed(11),
-        6 => Shape::Fixed(25),
+        4 => Shape::Fixed(Allowed::Ascii, 5),
+        5 => Shape::Fixed(Allowed::Ascii, 11),
+        6 => Shape::Fixed(Allowed::Ascii, 25),
         7 => Shape::Number(1),
-        8 => Shape::Fixed(21),
-        9 => Shape::Fixed(21),
+        8 => Shape::Fixed(Allowed::Ascii, 21),
+        9 => Shape::Fixed(Allowed::Ascii, 21),
         11 => Shape::Number(1),
         12 => Shape::Decimal,
         13 => Shape::Decimal,
         14 => Shape::Number(1),
         15 => Shape::Number(1),
-        16 => Shape::Fixed(21),
+        16 => Shape::Fixed(Allowed::Ascii, 21),
         17 => Shape::Number(1),
         18 => Shape::Number(1),
-        21 => Shape::Fixed(21),
+        21 => Shape::Fixed(Allowed::Ascii, 21),
         22 => Shape::Number(1),
         23 => Shape::Number(1),
         24 => Shape::Decimal,
@@ -160,16 +161,16 @@ fn report_shape(p: usize) -> Shape
         27 => Shape::Number(1),
         28 => Shape::Number(2),
         30 => Shape::Number(1),
-        31 => Shape::Fixed(12),
+        31 => Shape::Fixed(Allowed::Ascii, 12),
         32 => Shape::Decimal,
         33 => Shape::Decimal,
-        34 => Shape::Fixed(21),
+        34 => Shape::Fixed(Allowed::Ascii, 21),
         35 => Shape::Number(1),
         37 => Shape::Number(1),
-        38 => Shape::Fixed(25),
+        38 => Shape::Fixed(Allowed::Ascii, 25),
         39 => Shape::Number(1),
         42 => Shape::Number(1),
-        43 => Shape::Fixed(10),
+        43 => Shape::Fixed(Allowed::Ascii, 10),
         _ => Shape::Other,
     }
 }
@@ -190,7 +191,7 @@ fn check_report(p: usize, s: &[u8]) -> Checked
     match report_shape(p) {
         Shape::Number(width) => check_whole(width, s),
         Shape::Decimal => check_whole(8, s),
-        Shape::Fixed(width) => check_fixed(width, s),
+        Shape::Fixed(allowed, width) => check_fixed(allowed, width, s),
         Shape::Other => check_other(p, s),
     }
 }

@@ -24,8 +24,8 @@ fn extent_of(sort: Sort, s: &[u8]) -> usize
         Sort::Decimal => 8,
         Sort::Byte => 1,
         Sort::YesNo => 1,
-        Sort::Fixed(width) => width,
-        Sort::Variable(_) => 2 + read_u16(s) as usize,
+        Sort::Fixed(_, width) => width,
+        Sort::Variable(_, _) => 2 + read_u16(s) as usize,
     }
 }
 
@@ -55,7 +55,7 @@ pub fn extent_at(messagetype: u8, p: usize, s: &[u8]) -> usize
     match shape_at(messagetype, p) {
         Shape::Number(width) => width,
         Shape::Decimal => 8,
-        Shape::Fixed(width) => width,
+        Shape::Fixed(_, width) => width,
         Shape::Other => extent_other(messagetype, p, s),
     }
 }

@@ -34,8 +34,8 @@ fn copy_sort(d: &mut [u8], sort: Sort, s: &[u8]) -> Laid
         Sort::Decimal => copy_front(d, 8, s),
         Sort::Byte => copy_front(d, 1, s),
         Sort::YesNo => copy_front(d, 1, s),
-        Sort::Fixed(width) => copy_fixed(d, width, s),
-        Sort::Variable(size) => copy_variable(d, size, s),
+        Sort::Fixed(allowed, width) => copy_fixed(d, allowed, width, s),
+        Sort::Variable(allowed, size) => copy_variable(d, allowed, size, s),
     }
 }
 

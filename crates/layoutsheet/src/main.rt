@@ -11,6 +11,7 @@ use tables::table::EXECUTION_REPORT;
 use tables::table::Row;
 use tables::table::row_of;
 use tables::table::span_of;
+use wire::text::Allowed;
 
 fn say(text: &[u8]) {
     io::write_all(STDOUT_FILENO, text);
@@ -36,8 +37,27 @@ fn say_sort(sort: Sort) {
         Sort::Decimal => say(b"decimal"),
         Sort::Byte => say(b"byte"),
         Sort::YesNo => say(b"byte"),
-        Sort::Fixed(_) => say(b"fixed"),
-        Sort::Variable(_) => say(b"variable"),
+        Sort::Fixed(_, _) => say(b"fixed"),
+        Sort::Variable(_, _) => say(b"variable"),
+    }
+}
+
+fn say_allowed(allowed: Allowed) {
+    match allowed {
+        Allowed::Ascii => say(b"ascii"),
+        Allowed::Accented => say(b"accented"),
+    }
+}
+
+// The characters that a text is allowed; a field that is none has none.
+fn say_characters(sort: Sort) {
+    match sort {
+        Sort::Number(_) => say(b"-"),
+        Sort::Decimal => say(b"-"),
+        Sort::Byte => say(b"-"),
+        Sort::YesNo => say(b"-"),
+        Sort::Fixed(allowed, _) => say_allowed(allowed),
+        Sort::Variable(allowed, _) => say_allowed(allowed),
     }
 }
 
@@ -51,6 +71,8 @@ fn say_line(position: usize, field: Field, required: bool) {
     say_sort(sort);
     say(b" width=");
     say_number(sort.width());
+    say(b" characters=");
+    say_characters(sort);
     say(b" required=");
     if required {
         say(b"Y\n");

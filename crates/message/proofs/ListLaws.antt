@@ -19,6 +19,7 @@ use Rattle.tables.specs.declared.table.Row.{Row}
 use Rattle.tables.specs.declared.table.Row.the-variants.{Required, Optional, UnknownPosition, UnknownType}
 use Rattle.tables.specs.Dictionary.{sortOf}
 use Rattle.tables.specs.Tables.{rowOf}
+use Rattle.wire.specs.declared.text.Allowed.{Allowed}
 use Rattle.wire.specs.declared.text.Text.{Text}
 use Rattle.wire.specs.declared.text.Text.the-variants as text
 use Rattle.wire.specs.Decimal.{unsigned, decimal}
@@ -84,18 +85,18 @@ module _ (w : ℕ) (s : List ℕ) where
       go false e = absurd (h (rw e))
 
   -- and of a fixed text the characters before its null
-  pub record Counted : Type 0 where
+  pub record Counted (allowed : Allowed) : Type 0 where
     pub room : w ≤ length s
-    pub is : textValue (fixedText w s) ≡ value.Text (characters (take w s))
+    pub is : textValue (fixedText allowed w s) ≡ value.Text (characters allowed (take w s))
 
-  pub text-counted : (textValue (fixedText w s) ≡ value.Bad → ⊥) → Counted
+  pub text-counted : (allowed : Allowed) → (textValue (fixedText allowed w s) ≡ value.Bad → ⊥) → Counted allowed
   unfolding textValue
-  text-counted h = go (fixedText w s) refl
+  text-counted allowed h = go (fixedText allowed w s) refl
     where
-      go : (t : Text) → fixedText w s ≡ t → Counted
+      go : (t : Text) → fixedText allowed w s ≡ t → Counted allowed
       go (text.Good n k) e =
-          let g = fixed-good w s n k e in
-          record { room = g .whole; is = ap textValue e ∙ ap value.Text (sym (characters-null (take w s) n (g .ends))) }
+          let g = fixed-good allowed w s n k e in
+          record { room = g .whole; is = ap textValue e ∙ ap value.Text (sym (characters-null allowed (take w s) n (g .ends))) }
       go text.Bad e = absurd (h (ap textValue e))
 
 pub decimal-room : (s : List ℕ) → (decimalValue s ≡ value.Bad → ⊥) → 8 ≤ length s
@@ -131,8 +132,8 @@ sort-decimal (sort.Number w) s z e = number-no-decimal (leb w (length s)) _ z e
 sort-decimal sort.Decimal s z e = decimal-own (leb 8 (length s)) _ z e
 sort-decimal sort.Byte s z e = number-no-decimal (leb 1 (length s)) _ z e
 sort-decimal sort.YesNo s z e = number-no-decimal (leb 1 (length s)) _ z e
-sort-decimal (sort.Fixed w) s z e = text-no-decimal (fixedText w s) z e
-sort-decimal (sort.Variable size) s z e = text-no-decimal _ z e
+sort-decimal (sort.Fixed allowed w) s z e = text-no-decimal (fixedText allowed w s) z e
+sort-decimal (sort.Variable allowed size) s z e = text-no-decimal _ z e
 
 pub row-decimal : (row : Row) (s : List ℕ) (z : ℤ) → rowValue row true s ≡ value.Decimal z → z ≡ decimal (take 8 s)
 unfolding rowValue fieldValue
@@ -148,8 +149,8 @@ sort-lead (sort.Number w) h = refl
 sort-lead sort.Decimal h = refl
 sort-lead sort.Byte h = refl
 sort-lead sort.YesNo h = refl
-sort-lead (sort.Fixed w) h = refl
-sort-lead (sort.Variable size) h = absurd (h refl)
+sort-lead (sort.Fixed allowed w) h = refl
+sort-lead (sort.Variable allowed size) h = absurd (h refl)
 
 pub shape-lead : (row : Row) → (shapeOf row ≡ Other → ⊥) → rowLead row ≡ 0
 unfolding shapeOf rowLead
@@ -195,8 +196,8 @@ number-is w e = let y : _≡_ {A = ℕ} 0 1 = cc in omega arith
 decimal-is : Decimal ≡ Other → ⊥
 decimal-is e = let y : _≡_ {A = ℕ} 0 1 = cc in omega arith
 
-fixed-is : (w : ℕ) → Fixed w ≡ Other → ⊥
-fixed-is w e = let y : _≡_ {A = ℕ} 0 1 = cc in omega arith
+fixed-is : (allowed : Allowed) (w : ℕ) → Fixed allowed w ≡ Other → ⊥
+fixed-is allowed w e = let y : _≡_ {A = ℕ} 0 1 = cc in omega arith
 
 module _ (messagetype p whole : ℕ) (s : List ℕ) (good : rowValue (rowOf messagetype p) true s ≡ value.Bad → ⊥) where
   starts : (x : Shape) → shapeAt messagetype p ≡ x → (x ≡ Other → ⊥) → whole - 4 - length s ≡ textStart (rowOf messagetype p) whole (length s)
@@ -222,17 +223,17 @@ module _ (messagetype p whole : ℕ) (s : List ℕ) (good : rowValue (rowOf mess
         decimal-laid (rowOf messagetype p) whole p _ 8 n s d y _ (starts Decimal e decimal-is) (sym (t .taken))
         (t .value ∙ decimal-value s (decimal-room s (λ b. good (t .value ∙ b)))) b q l
 
-  module _ (w : ℕ) (e : shapeAt messagetype p ≡ Fixed w) where
+  module _ (allowed : Allowed) (w : ℕ) (e : shapeAt messagetype p ≡ Fixed allowed w) where
     pub quick-fixed-room : w ≤ length s
-    quick-fixed-room = text-counted w s (λ b. good (at-fixed messagetype p s w e .value ∙ b)) .room
+    quick-fixed-room = text-counted w s allowed (λ b. good (at-fixed messagetype p s allowed w e .value ∙ b)) .room
 
-    pub quick-fixed : (n : ℕ) (d y : List ℕ) → n ≡ characters (take w s) → y ≡ laid (p ∷ 3 ∷ (whole - 4 - length s) ∷ n ∷ 0 ∷ []) d
+    pub quick-fixed : (n : ℕ) (d y : List ℕ) → n ≡ characters allowed (take w s) → y ≡ laid (p ∷ 3 ∷ (whole - 4 - length s) ∷ n ∷ 0 ∷ []) d
         → (w ≡ extentOf (rowOf messagetype p) s) × (y ≡ laid (fiveOf (rowOf messagetype p) whole p s) d)
     unfolding five
     quick-fixed n d y q l =
-        let t = at-fixed messagetype p s w e in
-        told-laid (rowOf messagetype p) whole p _ w s d _ y _ (starts (Fixed w) e (fixed-is w)) (sym (t .taken))
-        (t .value ∙ text-counted w s (λ b. good (t .value ∙ b)) .is ∙ ap value.Text (sym q)) refl l
+        let t = at-fixed messagetype p s allowed w e in
+        told-laid (rowOf messagetype p) whole p _ w s d _ y _ (starts (Fixed allowed w) e (fixed-is allowed w)) (sym (t .taken))
+        (t .value ∙ text-counted w s allowed (λ b. good (t .value ∙ b)) .is ∙ ap value.Text (sym q)) refl l
 
 -- a list has five numbers for each field
 five-length : (p at wide : ℕ) (v : Value) → length (five p at wide v) ≡ 5

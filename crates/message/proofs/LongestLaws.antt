@@ -5,7 +5,7 @@ use mathlib.Core.List.{List}
 use Prim.Native.Nat.{ℕ, _+_, _≤_}
 use native.Mathlib.Omega.{arith}
 use lib.ListN.{length}
-use Rattle.tables.specs.Longest.{frameBytes, mostFrom, longestOf, longestLength, longestWritten}
+use Rattle.tables.specs.Longest.{frameBytes, mostFrom, longestLength, longestWritten}
 use Rattle.tables.specs.Tables.{isType, rowOf}
 use Rattle.tables.proofs.LongestLaws.{longest-computed, longest-of-all, longest-fits}
 use Rattle.wire.specs.Map.{mapPositions}
@@ -17,11 +17,6 @@ use Rattle.message.specs.declared.vet.Vetted.the-variants.{Good}
 use Rattle.message.specs.Vet.{goodHeader, vetWalk, vetPlace, vetSets, vetFields, vet}
 use Rattle.message.proofs.VetLaws.{GoodMessage, good-vetted}
 
--- the longest length of a type is that of the frame and of all its fields
-pub longest-is : (messagetype : ℕ) → isType messagetype ≡ true → frameBytes + mostFrom (rowOf messagetype) mapPositions 0 ≡ longestLength messagetype
-unfolding longestOf
-longest-is messagetype k = longest-computed messagetype k
-
 module _ (h : Header) (compId m body : List ℕ) (plain : ℕ) (v : vet h compId m body ≡ Good plain) where
   good : GoodMessage h compId m body plain
   good = good-vetted h compId m body plain v
@@ -29,7 +24,7 @@ module _ (h : Header) (compId m body : List ℕ) (plain : ℕ) (v : vet h compId
   pub body-longest : frameBytes + length body ≤ longestLength (h .messagetype)
   body-longest =
       let l = fields-most (rowOf (h .messagetype)) 0 plain m body (good .fields .walked) in
-      omega (arith, longest-is (h .messagetype) (good .messagetype))
+      omega (arith, longest-computed (h .messagetype) (good .messagetype))
 
   pub never-longer : frameBytes + plain ≤ longestLength (h .messagetype)
   never-longer = omega (arith, body-longest, fields-shorter (rowOf (h .messagetype)) 0 plain m body (good .fields .walked))

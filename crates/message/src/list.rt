@@ -118,8 +118,8 @@ fn lay_field(d: &mut [u64], messagetype: u8, map: &[u8], p: usize, whole: usize,
             lay_five(d, p, DECIMAL, at, 8, read_eight(s));
             8
         }
-        Shape::Fixed(width) => {
-            lay_five(d, p, TEXT, at, characters_in(&s[..width]), 0);
+        Shape::Fixed(allowed, width) => {
+            lay_five(d, p, TEXT, at, characters_in(allowed, &s[..width]), 0);
             width
         }
         Shape::Other => lay_other(d, messagetype, map, p, whole, s),

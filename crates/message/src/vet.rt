@@ -9,6 +9,7 @@ use fields::sets::lowest_unknown;
 use fields::walk::Walked;
 use fields::walk::walk;
 use tables::table::is_type;
+use wire::text::Allowed;
 use wire::text::takes_text;
 ghost use mathlib.Core.Path.{_≡_};
 ghost use Prim.Native.Nat.{ℕ};
@@ -30,7 +31,7 @@ pub fn is_comp_id(comp: &[u8]) -> bool
     if comp.len() == 0 {
         return false;
     }
-    takes_text(COMP_ID_BYTES, comp)
+    takes_text(Allowed::Ascii, COMP_ID_BYTES, comp)
 }
 
 // 6, where `named` says whether the Comp ID is good.

@@ -43,11 +43,15 @@ use session::state::Stepped;
 use session::state::last_of;
 use spelt::put_amount;
 use spelt::put_number;
+use spelt::put_shown;
 use tables::dictionary::Field;
+use tables::dictionary::Sort;
+use tables::dictionary::sort_of;
 use tables::table::Row as Place;
 use tables::table::row_of;
 use wire::decimal::read_decimal;
 use wire::laying::put_bytes;
+use wire::text::Allowed;
 use wire::text::LONGEST;
 use wire::text::fixed_part;
 use wire::text::put_fixed;
@@ -154,8 +158,52 @@ fn say_labelled(out: &mut [u8], said: usize, label: &[u8], n: u64) -> usize {
     say_number(out, said, n)
 }
 
-// The value of a field of this sort, whose part of the message has a Decimal's bytes or a text's characters.
-fn say_value(out: &mut [u8], said: usize, sort: u64, value: u64, part: &[u8]) -> usize {
+fn say_character(out: &mut [u8], said: usize, b: u8) -> usize {
+    let mut text = [0u8; 4];
+    let laid = put_shown(&mut text, b);
+    say(out, said, front(&text, laid.besides()))
+}
+
+// The characters of a text that is allowed accents, each as a terminal shows it safely.
+fn say_accented(out: &mut [u8], said: usize, text: &[u8]) -> usize {
+    let mut now = said;
+    let mut i = 0;
+    while i < text.len() {
+        now = say_character(out, now, text[i]);
+        i += 1;
+    }
+    now
+}
+
+// The characters of a text that is allowed these. Those from 32 to 126 a terminal shows as they are.
+fn say_allowed(out: &mut [u8], said: usize, allowed: Allowed, text: &[u8]) -> usize {
+    match allowed {
+        Allowed::Ascii => say(out, said, text),
+        Allowed::Accented => say_accented(out, said, text),
+    }
+}
+
+// The characters of this field.
+fn say_text(out: &mut [u8], said: usize, field: Field, text: &[u8]) -> usize {
+    match sort_of(field) {
+        Sort::Number(_) => said,
+        Sort::Decimal => said,
+        Sort::Byte => said,
+        Sort::YesNo => said,
+        Sort::Fixed(allowed, _) => say_allowed(out, said, allowed, text),
+        Sort::Variable(allowed, _) => say_allowed(out, said, allowed, text),
+    }
+}
+
+// The value of this field, whose part of the message has a Decimal's bytes or a text's characters.
+fn say_value(
+    out: &mut [u8],
+    said: usize,
+    field: Field,
+    sort: u64,
+    value: u64,
+    part: &[u8],
+) -> usize {
     if sort == NUMBER {
         return say_number(out, said, value);
     }
@@ -163,7 +211,7 @@ fn say_value(out: &mut [u8], said: usize, sort: u64, value: u64, part: &[u8]) ->
         return say_amount(out, said, read_decimal(part));
     }
     if sort == TEXT {
-        return say(out, said, part);
+        return say_text(out, said, field, part);
     }
     said
 }
@@ -180,7 +228,7 @@ fn say_field(
     let said = say(out, said, b"  ");
     let said = say_name(out, said, field);
     let said = say(out, said, b"=");
-    let said = say_value(out, said, sort, value, part);
+    let said = say_value(out, said, field, sort, value, part);
     say(out, said, b"\n")
 }
 
@@ -691,7 +739,7 @@ fn run(
 // Before the first byte: our Comp ID, or one that stands in.
 fn connect(view: View, asked: Asked, out: &mut [u8]) -> View {
     let ours = asked.ours;
-    let comp = fixed_part(COMP_ID_BYTES, &ours);
+    let comp = fixed_part(Allowed::Ascii, COMP_ID_BYTES, &ours);
     if is_comp_id(comp) {
         return begin(view, comp, true, asked, out);
     }
@@ -802,7 +850,7 @@ fn begins(s: &[u8], text: &[u8]) -> bool {
 // Our Comp ID in plain form; zeros where it is no Comp ID.
 fn plain_comp_id(text: &[u8]) -> [u8; COMP_ID_BYTES] {
     let mut bytes = [0u8; COMP_ID_BYTES];
-    put_fixed(&mut bytes, COMP_ID_BYTES, text);
+    put_fixed(&mut bytes, Allowed::Ascii, COMP_ID_BYTES, text);
     bytes
 }
 

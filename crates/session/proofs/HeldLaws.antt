@@ -8,6 +8,7 @@ use native.Mathlib.Numerals.{add-one}
 use lib.Dec.{eqb, leb}
 use lib.ListN.{length, take, drop, getD, replicate, length-drop, drop-of-length-le}
 use lib.Seq.{drop-append-seam, drop-cons, take-all}
+use Rattle.wire.specs.declared.text.Allowed.the-variants.{Ascii}
 use Rattle.wire.specs.Text.{fixedPart, fixedBytes}
 use Rattle.message.specs.Vet.{goodCompId}
 use Rattle.message.proofs.SeenLaws.{seen-part}
@@ -42,5 +43,5 @@ day-plain compId good e o =
     rw (day-ours compId good e o, good) z
 
 -- a text that was read is good where it is not empty
-pub seen-as : (s t : List ℕ) → t ≡ fixedPart 12 s → goodCompId t ≡ leb 1 (length t)
+pub seen-as : (s t : List ℕ) → t ≡ fixedPart Ascii 12 s → goodCompId t ≡ leb 1 (length t)
 seen-as s t e = ap goodCompId e ∙ seen-part s ∙ ap (λ (x : List ℕ). leb 1 (length x)) (sym e)

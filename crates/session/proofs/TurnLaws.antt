@@ -1,12 +1,13 @@
 -- Business in its turn: a Live session takes it, whatever else it might have answered.
 use mathlib.Core.Path.{_≡_, refl, sym, ap, subst, _∙_}
-use mathlib.Core.Bool.{Bool, true, false, cond, _&&_, and-eq-true-iff}
+use mathlib.Core.Bool.{Bool, true, false, cond, _&&_}
 use mathlib.Core.List.{List}
 use Prim.Native.Nat.{ℕ, _+_, _≤_, _<_}
 use native.Mathlib.Omega.{arith}
 use borrow.Author.Tests.{le-ltb, ne-eqb, ltb-true, eqb-true}
 use lib.Dec.{eqb, ltb}
 use lib.ListN.{length}
+use Rattle.wire.proofs.TestLaws.{and-true}
 use Rattle.message.specs.declared.frame.Header.{Header}
 use Rattle.message.specs.declared.read.Reading.{Reading}
 use Rattle.message.specs.declared.read.Reading.the-variants.{Good, Refused}
@@ -18,7 +19,7 @@ use Rattle.session.specs.declared.state.Send.the-variants.{Nothing}
 use Rattle.session.specs.declared.state.Session.{Session}
 use Rattle.session.specs.declared.state.State.{State}
 use Rattle.session.specs.declared.state.State.the-variants.{Down, Waiting, Live}
-use Rattle.session.specs.Arrival.{isOurs, messageIn, arrivalBy, arrivalOf}
+use Rattle.session.specs.Arrival.{isOurs, messageIn, arrivalBy}
 use Rattle.session.specs.Day.{arrived, stepIn, stepBy, step}
 use Rattle.session.specs.Rules.{equal, numbered, live, forUs, ruledIn, ruled}
 use Rattle.session.specs.State.{last, take}
@@ -27,10 +28,6 @@ use Rattle.session.specs.Turn.{isDueHeader, dueIn, dueLength, dueTaken, 
 use Rattle.session.proofs.FrontLaws.{front-good, front-most}
 use Rattle.session.proofs.TypeLaws.{above-eight}
 use Rattle.session.proofs.StepLaws.{front-within}
-
--- tests joined
-pub and-true : (a b : Bool) → a && b ≡ true → (a ≡ true) × (b ≡ true)
-and-true a b e = and-eq-true-iff a b .0 e
 
 -- what a length that is not 0 tells of what was read
 pub record IsDue (s : Session) (left : List ℕ) (read : Reading) (n : ℕ) : Type 0 where

@@ -4,6 +4,7 @@ use mathlib.Core.Bool.{Bool, true, false, cond, _&&_, _||_}
 use mathlib.Core.List.{List, [], _∷_}
 use lib.Dec.{eqb, leb}
 use lib.ListN.{length, drop}
+use Rattle.wire.specs.declared.text.Allowed.the-variants.{Ascii}
 use Rattle.wire.specs.Text.{fixedPart}
 use Rattle.message.specs.Frame.{compIdBytes}
 use Rattle.message.specs.Vet.{goodCompId}
@@ -29,7 +30,7 @@ allZero (b ∷ bs) = cond (eqb b 0) (allZero bs) false
 
 -- a good Comp ID, and zeros after it
 unfoldable pub isPlainCompId : List ℕ → Bool
-isPlainCompId ours = cond (goodCompId (fixedPart compIdBytes ours)) (allZero (drop (length (fixedPart compIdBytes ours)) ours)) false
+isPlainCompId ours = cond (goodCompId (fixedPart Ascii compIdBytes ours)) (allZero (drop (length (fixedPart Ascii compIdBytes ours)) ours)) false
 
 -- Connect's Logon has used up our number 1
 unfoldable pub leastOwn : ℕ → ℕ

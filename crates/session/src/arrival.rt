@@ -26,10 +26,12 @@ use tables::table::RESEND_REQUEST;
 use tables::table::SEQUENCE_RESET;
 use tables::table::TEST_REQUEST;
 use wire::number::read_eight;
+use wire::text::Allowed;
 use wire::text::fixed_part;
 ghost use mathlib.Core.Path.{_≡_};
 ghost use mathlib.Core.Bool.{true};
 ghost use Prim.Native.Nat.{_≤_, _<_};
+ghost use Rattle.wire.specs.declared.text.Allowed.the-variants.{Ascii};
 ghost use Rattle.wire.specs.Text.{fixedPart};
 ghost use Rattle.message.specs.Frame.{compIdBytes, mapIn, bodyIn};
 ghost use Rattle.session.specs.State.{last};
@@ -182,7 +184,7 @@ fn content_in(messagetype: u8, s: &[u8], length: usize) -> Content
 // Whether two texts of twelve bytes are the same up to a null, which stands behind the first eight. Most Comp IDs that
 // are the same are found so by this quick test; where it says no, the texts are looked for and compared.
 fn is_same_start(a: &[u8], b: &[u8]) -> bool
-    ensures { λ r. ⌜ (r ≡ true → fixedPart compIdBytes (now (a .entry)) ≡ fixedPart compIdBytes (now (b .entry))) ⌝ }
+    ensures { λ r. ⌜ (r ≡ true → fixedPart Ascii compIdBytes (now (a .entry)) ≡ fixedPart Ascii compIdBytes (now (b .entry))) ⌝ }
 {
     if a.len() < COMP_ID_BYTES {
         return false;
@@ -213,7 +215,10 @@ fn is_ours(ours: &[u8; COMP_ID_BYTES], s: &[u8]) -> bool
     if is_same_start(ours, comp_bytes_in(s)) {
         return true;
     }
-    is_same(fixed_part(COMP_ID_BYTES, ours), comp_id_in(s))
+    is_same(
+        fixed_part(Allowed::Ascii, COMP_ID_BYTES, ours),
+        comp_id_in(s),
+    )
 }
 
 // What was read at the front of s: a good message's fields that the rules name.

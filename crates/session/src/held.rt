@@ -6,6 +6,7 @@ use crate::state::Halt;
 use crate::state::Session;
 use crate::state::State;
 use message::frame::COMP_ID_BYTES;
+use wire::text::Allowed;
 use wire::text::fixed_part;
 ghost use mathlib.Core.Path.{_≡_};
 ghost use Rattle.session.specs.Held.{stateNumber, stateAt, allZero, isPlainCompId, leastOwn, isAhead, isHeld, held};
@@ -56,7 +57,7 @@ fn is_all_zero(s: &[u8]) -> bool
 fn is_plain_comp_id(ours: &[u8]) -> bool
     ensures { λ r. ⌜ r ≡ isPlainCompId (now (ours .entry)) ⌝ }
 {
-    let text = fixed_part(COMP_ID_BYTES, ours);
+    let text = fixed_part(Allowed::Ascii, COMP_ID_BYTES, ours);
     if text.len() == 0 {
         return false;
     }

@@ -4,3 +4,4 @@ pub mod BehindLaws
 pub mod DigitLaws
 pub mod LineLaws
 pub mod Shortest
+pub mod ShownLaws

@@ -1,3 +1,4 @@
 pub mod Spelt
 pub mod Lines
 pub mod Texts
+pub mod Shown

@@ -1,6 +1,9 @@
-// Numbers and Decimals as decimal text, laid at the front of a lent buffer; and where a line of text ends.
+// Numbers and Decimals as decimal text, and a text's characters as a terminal shows them safely, laid at the front of a lent buffer; and where
+// a line of text ends.
 use wire::laying::Laid;
 use wire::laying::put_bytes;
+use wire::text::Allowed;
+use wire::text::is_character;
 ghost use mathlib.Core.Path.{_≡_};
 ghost use mathlib.Core.List.{_++_};
 ghost use Prim.Native.Nat.{_+_, _%_, _^_, _≤_, _<_};
@@ -8,7 +11,13 @@ ghost use lib.IntN.{natAbs};
 ghost use lib.ListN.{length, take, drop};
 ghost use Rattle.wire.specs.Laying.{laid, laidAnswer};
 ghost use Rattle.spelt.specs.Lines.{lineLength};
+ghost use Rattle.spelt.specs.Shown.{hexDigit, shown};
 ghost use Rattle.spelt.specs.Spelt.{numberText, fraction, hundredMillionths, amountText};
+
+const BACKSLASH: u8 = b'\\';
+
+// The first that Latin-1 shows above the controls.
+const FIRST_LATIN: u8 = 160;
 
 // A number's digits: they stand in text from `from` on.
 struct Digits {
@@ -134,4 +143,34 @@ pub fn line_length(s: &[u8]) -> usize
         i += 1;
     }
     i
+}
+
+fn hex_digit(n: u8) -> u8
+    requires { ⌜ n < 16 ⌝ }
+    ensures { λ r. ⌜ r ≡ hexDigit n ⌝ }
+{
+    if n < 10 { b'0' + n } else { b'A' - 10 + n }
+}
+
+// A text's character as a terminal shows it safely.
+pub fn put_shown(d: &mut [u8], b: u8) -> Laid
+    ensures { λ r. ⌜ (r ≡ laidAnswer (shown b) (now (d .entry))) × (now (d .exit) ≡ laid (shown b) (now (d .entry))) ⌝ }
+{
+    if b == BACKSLASH {
+        let doubled = [BACKSLASH, BACKSLASH];
+        return put_bytes(d, &doubled);
+    }
+    if is_character(Allowed::Ascii, b) {
+        let itself = [b];
+        return put_bytes(d, &itself);
+    }
+    if b < FIRST_LATIN {
+        let escaped = [BACKSLASH, b'x', hex_digit(b / 16), hex_digit(b % 16)];
+        return put_bytes(d, &escaped);
+    }
+    // UTF-8 of 128 to 255: the two high bits behind 110000, the six low ones behind 10.
+    let first = 192 + b / 64;
+    let second = 128 + b % 64;
+    let two = [first, second];
+    put_bytes(d, &two)
 }

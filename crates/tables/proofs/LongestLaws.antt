@@ -45,7 +45,7 @@ passes t = cond (eqb (longestOf t) (longestLength t)) (leb (longestLength t) lon
 
 -- the test, computed over the tables: no type fails it
 tested : firstFrom (λ t. not (passes t)) 11 0 ≡ 11
-unfolding firstFrom passes mostOf mostAt mostFrom longestOf longestLengths longestLength entry sortOf isRequired rowAt rowOf tablesOf heartbeat testRequest resendRequest reject sequenceReset logon logout lookupRequest lookupResponse businessMessageReject nineTables reports addLine column joined notRequired unionAt
+unfolding firstFrom passes mostOf mostAt mostFrom longestLengths longestLength entry sortOf isRequired rowAt rowOf tablesOf heartbeat testRequest resendRequest reject sequenceReset logon logout lookupRequest lookupResponse businessMessageReject nineTables reports addLine column joined notRequired unionAt
 tested = refl
 
 passed : (t : ℕ) → isType t ≡ true → (eqb (longestOf t) (longestLength t) ≡ true) × (leb (longestLength t) longestWritten ≡ true)

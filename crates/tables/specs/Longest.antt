@@ -15,7 +15,7 @@ frameBytes = 58
 
 -- 004 section 6.1: a field of this sort at its longest; a variable text has two bytes of length before it
 unfoldable pub mostOf : Sort → ℕ
-mostOf sort = bySort (λ w. w) (λ w. w) (λ w. 2 + w) sort
+mostOf sort = bySort (λ w. w) (λ allowed w. w) (λ allowed w. 2 + w) sort
 
 -- the field that a row names; none takes none
 unfoldable pub mostAt : Row → ℕ
@@ -27,7 +27,7 @@ mostFrom rows zero p = 0
 mostFrom rows (suc n) p = mostAt (rows p) + mostFrom rows n (suc p)
 
 -- a message of this type at its longest
-unfoldable pub longestOf : ℕ → ℕ
+abbrev pub longestOf : ℕ → ℕ
 longestOf messagetype = frameBytes + mostFrom (rowOf messagetype) mapPositions 0
 
 -- The longest length of each message type, from type 0 on.

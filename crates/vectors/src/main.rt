@@ -1,9 +1,13 @@
 // Outside vectors, run and compared with what they should be: RFC 3720's five CRC32C examples (appendix B.4), the
-// usual check value of CRC32C, and 004 section 6.1's Decimal.
+// usual check value of CRC32C, 004 section 6.1's Decimal, both ends of the characters that document 02, item 8 names,
+// and letters of Latin-1 in UTF-8 (RFC 3629, section 3).
 use libc::STDOUT_FILENO;
+use spelt::put_shown;
 use wire::decimal::put_decimal;
 use wire::decimal::read_decimal;
 use wire::laying::Laid;
+use wire::text::Allowed;
+use wire::text::characters_in;
 
 fn say(text: &[u8]) {
     io::write_all(STDOUT_FILENO, text);
@@ -184,8 +188,74 @@ fn decimals() {
     judge(decimal_is(&lowest, -9223372036854775808));
 }
 
+// How many bytes at the front of a text are characters, with these allowed.
+fn counted(name: &[u8], allowed: Allowed, text: &[u8], want: usize) {
+    let n = characters_in(allowed, text);
+    say(name);
+    say(b": ");
+    io::print_decimal(STDOUT_FILENO, n as u64);
+    judge(n == want);
+}
+
+// The ends of each run of characters, one by one and among the eight that are looked at at once.
+fn characters() {
+    counted(b"32, 126, 127 in ascii", Allowed::Ascii, b" ~\x7F", 2);
+    counted(b"32, 31 in ascii", Allowed::Ascii, b" \x1F", 1);
+    counted(b"126, 128 in ascii", Allowed::Ascii, b"~\x80", 1);
+    counted(
+        b"126, 255 among eight in ascii",
+        Allowed::Ascii,
+        b"A~A\xFFAAAAA",
+        3,
+    );
+    counted(
+        b"32, 126, 128, 255, 127 in accented",
+        Allowed::Accented,
+        b" ~\x80\xFF\x7F",
+        4,
+    );
+    counted(b"255, 31 in accented", Allowed::Accented, b"\xFF\x1F", 1);
+    counted(
+        b"255, 128, 127 among eight in accented",
+        Allowed::Accented,
+        b"\xFF\xFF\x80\x80\xFF\x7F\xFF\xFF\xFF",
+        5,
+    );
+    counted(
+        b"255, 128, 0 among eight in accented",
+        Allowed::Accented,
+        b"\xFF\x80\xFF\x80\xFF\x80\xFF\0\xFF",
+        7,
+    );
+}
+
+// Whether a character is shown as so many bytes, which stand before zeros.
+fn shown_is(b: u8, count: usize, want: &[u8; 4]) -> bool {
+    let mut d = [0u8; 4];
+    match put_shown(&mut d, b) {
+        Laid::Wrote(n) => n == count && check::same(&d, want),
+        Laid::BadText => false,
+        Laid::NoRoom(_) => false,
+    }
+}
+
+fn shown() {
+    say(b"e acute, 233, shown as C3 A9:");
+    judge(shown_is(0xE9, 2, b"\xC3\xA9\0\0"));
+    say(b"the first of Latin-1, 160, shown as C2 A0:");
+    judge(shown_is(0xA0, 2, b"\xC2\xA0\0\0"));
+    say(b"the last, 255, shown as C3 BF:");
+    judge(shown_is(0xFF, 2, b"\xC3\xBF\0\0"));
+    say(b"a control, 155, shown as \\x9B:");
+    judge(shown_is(0x9B, 4, b"\\x9B"));
+    say(b"a backslash shown as two:");
+    judge(shown_is(0x5C, 2, b"\\\\\0\0"));
+}
+
 fn main() {
     sums_of_runs();
     sums_of_messages();
     decimals();
+    characters();
+    shown();
 }

@@ -5,6 +5,7 @@ pub mod MapLaws
 pub mod NumberLaws
 pub mod SearchLaws
 pub mod TextLaws
+pub mod WiderLaws
 pub mod EightLaws
 pub mod MarkLaws
 pub mod StartLaws

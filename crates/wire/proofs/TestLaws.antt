@@ -1,7 +1,7 @@
 -- Laws of tests: what a test that came out one way says, and a law of either way. Assumes nothing.
 use Prim.Native.Nat.{ℕ, _-_}
 use mathlib.Core.Path.{_≡_, refl}
-use mathlib.Core.Bool.{Bool, true, false, cond}
+use mathlib.Core.Bool.{Bool, true, false, cond, _&&_, and-eq-true-iff}
 use mathlib.Core.List.{List}
 use native.Mathlib.Nat.{le-of-eq}
 use native.Mathlib.Omega.{arith}
@@ -12,6 +12,9 @@ use lib.Seq.{take-all}
 pub both : (p q : Bool) → cond p q false ≡ true → (p ≡ true) × (q ≡ true)
 both true q h = (refl, h)
 both false q h = let z : _≡_ {A = ℕ} 0 1 = cc in absurd (omega arith)
+
+pub and-true : (a b : Bool) → a && b ≡ true → (a ≡ true) × (b ≡ true)
+and-true a b e = and-eq-true-iff a b .0 e
 
 -- what holds on each way of a test holds of its result
 pub either : {A : Type 0} (P : A → Type 0) (b : Bool) {x y : A} → (b ≡ true → P x) → (b ≡ false → P y) → P (cond b x y)

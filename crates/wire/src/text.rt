@@ -15,6 +15,12 @@ ghost use Rattle.wire.specs.Text.{isCharacter, allCharacters, characters
 // No message has more bytes, and the text writer takes no greater width.
 pub const LONGEST: usize = 4096;
 
+// The characters that a text is allowed: `Ascii` those from 32 to 126, `Accented` those from 128 to 255 too (document 02, item 8).
+pub enum Allowed {
+    Ascii,
+    Accented,
+}
+
 // Where a text's null stands, if only characters stand before it.
 enum Null {
     At(usize),
@@ -27,41 +33,54 @@ pub enum Text {
     Bad,
 }
 
-fn is_character(b: u8) -> bool
-    ensures { λ r. ⌜ r ≡ isCharacter b ⌝ }
+// Whether a byte is among the characters that a text is allowed.
+pub fn is_character(allowed: Allowed, b: u8) -> bool
+    ensures { λ r. ⌜ r ≡ isCharacter allowed b ⌝ }
 {
-    32 <= b && b <= 126
+    match allowed {
+        Allowed::Ascii => 32 <= b && b <= 126,
+        Allowed::Accented => 32 <= b && b != 127,
+    }
 }
 
 // A word whose lowest set bit stands in the first of the eight bytes at the front that is no character; it is 0 where all eight are
-// characters. Taking 32 from a byte below 32 borrows and leaves the top bit set, and adding 1 to a byte from 127 to 254 sets it; 255 has it
-// set after 32 is taken away. A character sets neither top bit, and neither borrows nor carries. A borrow or a carry goes upwards only: so
-// every byte up to the first that is no character is marked as it should be, and only the marks above it may be wrong.
-fn outside(s: &[u8]) -> u64
+// characters. Taking 32 from a byte below 32 borrows and leaves the top bit set. Adding 1 to a byte from 127 to 254 sets it, and 255 has it
+// set after 32 is taken away; where 128 to 255 are characters too, 1 is added to the seven bits below the top one, which sets it for 127 and
+// 255, and a byte that had it set is not marked. A character borrows and carries nothing. A borrow or a carry goes upwards only: so every
+// byte up to the first that is no character is marked as it should be, and only the marks above it may be wrong.
+fn outside(allowed: Allowed, s: &[u8]) -> u64
     requires { ⌜ 8 ≤ length (now s) ⌝ }
-    ensures { λ r. ⌜ trailingZeros 64 r / 8 ≡ characters (take 8 (now (s .entry))) ⌝ }
+    ensures { λ r. ⌜ trailingZeros 64 r / 8 ≡ characters allowed (take 8 (now (s .entry))) ⌝ }
 {
     let word = read_eight(s);
     let below = std::num::wrapping_sub_u64(word, 0x2020202020202020);
-    let above = std::num::wrapping_add_u64(word, 0x0101010101010101);
-    (below | above) & 0x8080808080808080
+    match allowed {
+        Allowed::Ascii => {
+            let above = std::num::wrapping_add_u64(word, 0x0101010101010101);
+            (below | above) & 0x8080808080808080
+        }
+        Allowed::Accented => {
+            let above = std::num::wrapping_add_u64(word & 0x7F7F7F7F7F7F7F7F, 0x0101010101010101);
+            (below | above) & ((word & 0x8080808080808080) ^ 0x8080808080808080)
+        }
+    }
 }
 
 // How many characters stand at the front. Eight bytes are looked at at once while there are as many, and the lowest mark of theirs is the
 // first byte that is no character, whatever the marks above it are; the last seven bytes at most are looked at one by one.
-pub fn characters_in(s: &[u8]) -> usize
-    ensures { λ r. ⌜ r ≡ characters (now (s .entry)) ⌝ }
+pub fn characters_in(allowed: Allowed, s: &[u8]) -> usize
+    ensures { λ r. ⌜ r ≡ characters allowed (now (s .entry)) ⌝ }
 {
     let mut i = 0;
     while 8 <= s.len() - i {
-        let marked = outside(&s[i..]);
+        let marked = outside(allowed, &s[i..]);
         if marked != 0 {
             return i + (u64::trailing_zeros(marked) / 8) as usize;
         }
         i += 8;
     }
     while i < s.len() {
-        if !is_character(s[i]) {
+        if !is_character(allowed, s[i]) {
             return i;
         }
         i += 1;
@@ -69,10 +88,10 @@ pub fn characters_in(s: &[u8]) -> usize
     i
 }
 
-fn null_in(s: &[u8]) -> Null
-    ensures { λ r. ⌜ r ≡ null (now (s .entry)) ⌝ }
+fn null_in(allowed: Allowed, s: &[u8]) -> Null
+    ensures { λ r. ⌜ r ≡ null allowed (now (s .entry)) ⌝ }
 {
-    let n = characters_in(s);
+    let n = characters_in(allowed, s);
     if n < s.len() && s[n] == 0 {
         return Null::At(n);
     }
@@ -80,13 +99,13 @@ fn null_in(s: &[u8]) -> Null
 }
 
 // The fixed text of this width at the front of s.
-pub fn fixed_text(width: usize, s: &[u8]) -> Text
-    ensures { λ r. ⌜ r ≡ fixedText width (now (s .entry)) ⌝ }
+pub fn fixed_text(allowed: Allowed, width: usize, s: &[u8]) -> Text
+    ensures { λ r. ⌜ r ≡ fixedText allowed width (now (s .entry)) ⌝ }
 {
     if s.len() < width {
         return Text::Bad;
     }
-    match null_in(&s[..width]) {
+    match null_in(allowed, &s[..width]) {
         Null::At(n) => Text::Good {
             characters: n,
             taken: width,
@@ -96,8 +115,8 @@ pub fn fixed_text(width: usize, s: &[u8]) -> Text
 }
 
 // The variable text at the front of s: its length in two bytes, from 1 to `size`, and so many bytes after them.
-pub fn variable_text(size: usize, s: &[u8]) -> Text
-    ensures { λ r. ⌜ r ≡ variableText size (now (s .entry)) ⌝ }
+pub fn variable_text(allowed: Allowed, size: usize, s: &[u8]) -> Text
+    ensures { λ r. ⌜ r ≡ variableText allowed size (now (s .entry)) ⌝ }
 {
     if s.len() < 2 {
         return Text::Bad;
@@ -110,7 +129,7 @@ pub fn variable_text(size: usize, s: &[u8]) -> Text
     if s.len() < end {
         return Text::Bad;
     }
-    match null_in(&s[2..end]) {
+    match null_in(allowed, &s[2..end]) {
         Null::At(k) => Text::Good {
             characters: k,
             taken: end,
@@ -120,10 +139,10 @@ pub fn variable_text(size: usize, s: &[u8]) -> Text
 }
 
 // The characters of a fixed text, a part of the caller's bytes; empty where the text is bad.
-pub fn fixed_part(width: usize, s: &[u8]) -> &[u8]
-    ensures { λ r. ⌜ now r ≡ fixedPart width (now (s .entry)) ⌝ }
+pub fn fixed_part(allowed: Allowed, width: usize, s: &[u8]) -> &[u8]
+    ensures { λ r. ⌜ now r ≡ fixedPart allowed width (now (s .entry)) ⌝ }
 {
-    match fixed_text(width, s) {
+    match fixed_text(allowed, width, s) {
         Text::Good {
             characters,
             taken: _,
@@ -133,10 +152,10 @@ pub fn fixed_part(width: usize, s: &[u8]) -> &[u8]
 }
 
 // The characters of a variable text, a part of the caller's bytes; empty where the text is bad.
-pub fn variable_part(size: usize, s: &[u8]) -> &[u8]
-    ensures { λ r. ⌜ now r ≡ variablePart size (now (s .entry)) ⌝ }
+pub fn variable_part(allowed: Allowed, size: usize, s: &[u8]) -> &[u8]
+    ensures { λ r. ⌜ now r ≡ variablePart allowed size (now (s .entry)) ⌝ }
 {
-    match variable_text(size, s) {
+    match variable_text(allowed, size, s) {
         Text::Good {
             characters,
             taken: _,
@@ -148,15 +167,15 @@ pub fn variable_part(size: usize, s: &[u8]) -> &[u8]
     }
 }
 
-fn all_characters(t: &[u8]) -> bool
-    ensures { λ r. ⌜ r ≡ allCharacters (now (t .entry)) ⌝ }
+fn all_characters(allowed: Allowed, t: &[u8]) -> bool
+    ensures { λ r. ⌜ r ≡ allCharacters allowed (now (t .entry)) ⌝ }
 {
-    characters_in(t) == t.len()
+    characters_in(allowed, t) == t.len()
 }
 
 // Whether the text writer takes these characters at this width, null counted.
-pub fn takes_text(width: usize, t: &[u8]) -> bool
-    ensures { λ r. ⌜ r ≡ takes width (now (t .entry)) ⌝ }
+pub fn takes_text(allowed: Allowed, width: usize, t: &[u8]) -> bool
+    ensures { λ r. ⌜ r ≡ takes allowed width (now (t .entry)) ⌝ }
 {
     if width == 0 {
         return false;
@@ -167,7 +186,7 @@ pub fn takes_text(width: usize, t: &[u8]) -> bool
     if width <= t.len() {
         return false;
     }
-    all_characters(t)
+    all_characters(allowed, t)
 }
 
 fn clear(d: &mut [u8])
@@ -195,20 +214,20 @@ fn lay_fixed(d: &mut [u8], width: usize, t: &[u8]) -> Laid
 }
 
 // A fixed text at the front of a lent buffer: its characters, and zeros to the width.
-pub fn put_fixed(d: &mut [u8], width: usize, t: &[u8]) -> Laid
-    ensures { λ r. ⌜ (r ≡ putFixed width (now (t .entry)) (now (d .entry))) × (now (d .exit) ≡ fixedLaid width (now (t .entry)) (now (d .entry))) ⌝ }
+pub fn put_fixed(d: &mut [u8], allowed: Allowed, width: usize, t: &[u8]) -> Laid
+    ensures { λ r. ⌜ (r ≡ putFixed allowed width (now (t .entry)) (now (d .entry))) × (now (d .exit) ≡ fixedLaid allowed width (now (t .entry)) (now (d .entry))) ⌝ }
 {
-    if !takes_text(width, t) {
+    if !takes_text(allowed, width, t) {
         return Laid::BadText;
     }
     lay_fixed(d, width, t)
 }
 
 // The fixed text at the front of s laid down anew: its characters, and zeros to the width. A bad text has no characters.
-pub fn copy_fixed(d: &mut [u8], width: usize, s: &[u8]) -> Laid
-    ensures { λ r. ⌜ Lays (fixedBytes width (fixedPart width (now (s .entry)))) (now (d .entry)) r (now (d .exit)) ⌝ }
+pub fn copy_fixed(d: &mut [u8], allowed: Allowed, width: usize, s: &[u8]) -> Laid
+    ensures { λ r. ⌜ Lays (fixedBytes width (fixedPart allowed width (now (s .entry)))) (now (d .entry)) r (now (d .exit)) ⌝ }
 {
-    lay_fixed(d, width, fixed_part(width, s))
+    lay_fixed(d, width, fixed_part(allowed, width, s))
 }
 
 // The length of the characters, the null counted, the characters and the null, at the front of a lent buffer.
@@ -228,18 +247,18 @@ fn lay_variable(d: &mut [u8], t: &[u8]) -> Laid
 }
 
 // A variable text at the front of a lent buffer: its length, the null counted, its characters and the null.
-pub fn put_variable(d: &mut [u8], size: usize, t: &[u8]) -> Laid
-    ensures { λ r. ⌜ (r ≡ putVariable size (now (t .entry)) (now (d .entry))) × (now (d .exit) ≡ variableLaid size (now (t .entry)) (now (d .entry))) ⌝ }
+pub fn put_variable(d: &mut [u8], allowed: Allowed, size: usize, t: &[u8]) -> Laid
+    ensures { λ r. ⌜ (r ≡ putVariable allowed size (now (t .entry)) (now (d .entry))) × (now (d .exit) ≡ variableLaid allowed size (now (t .entry)) (now (d .entry))) ⌝ }
 {
-    if !takes_text(size, t) {
+    if !takes_text(allowed, size, t) {
         return Laid::BadText;
     }
     lay_variable(d, t)
 }
 
 // The variable text at the front of s laid down anew. A bad text has no characters.
-pub fn copy_variable(d: &mut [u8], size: usize, s: &[u8]) -> Laid
-    ensures { λ r. ⌜ Lays (variableBytes (variablePart size (now (s .entry)))) (now (d .entry)) r (now (d .exit)) ⌝ }
+pub fn copy_variable(d: &mut [u8], allowed: Allowed, size: usize, s: &[u8]) -> Laid
+    ensures { λ r. ⌜ Lays (variableBytes (variablePart allowed size (now (s .entry)))) (now (d .entry)) r (now (d .exit)) ⌝ }
 {
-    lay_variable(d, variable_part(size, s))
+    lay_variable(d, variable_part(allowed, size, s))
 }

@@ -31,6 +31,7 @@ use session::state::Send;
 use session::state::Session;
 use session::state::State;
 use session::state::Stepped;
+use spelt::put_shown;
 use tables::dictionary::Field;
 use tables::table::EXECUTION_REPORT;
 use wire::decimal::put_decimal;
@@ -118,8 +119,23 @@ fn say_shares(s: &[u8]) {
 fn say_text(s: &[u8], p: usize) {
     say_asked(ask_text(s, p));
     say(b" [");
-    say(text(s, p));
+    say_shown(text(s, p));
     say(b"]");
+}
+
+fn say_character(b: u8) {
+    let mut shown = [0u8; 4];
+    let laid = put_shown(&mut shown, b);
+    say(front(&shown, laid.besides()));
+}
+
+// A text's characters, each as a terminal shows it safely.
+fn say_shown(text: &[u8]) {
+    let mut i = 0;
+    while i < text.len() {
+        say_character(text[i]);
+        i += 1;
+    }
 }
 
 // The value of a hexadecimal digit, and 16 where it is none.

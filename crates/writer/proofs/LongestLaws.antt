@@ -11,6 +11,7 @@ use Rattle.crc.specs.Crc.{crc32c}
 use Rattle.tables.specs.Dictionary.{yes}
 use Rattle.tables.specs.Longest.{frameBytes, mostFrom, longestLength, longestWritten}
 use Rattle.tables.specs.Tables.{isType, rowOf}
+use Rattle.tables.proofs.LongestLaws.{longest-computed}
 use Rattle.wire.specs.Map.{mapPositions}
 use Rattle.wire.specs.Number.{Bytes, numberBytes}
 use Rattle.wire.specs.Text.{isCharacter, allCharacters, takes, fixedBytes}
@@ -24,7 +25,7 @@ use Rattle.message.specs.declared.vet.Vetted.the-variants as vetted
 use Rattle.message.specs.Frame.{stx, compIdBytes, sumBytes, compIdIn, mapIn, bodyIn}
 use Rattle.message.specs.Read.{readOf}
 use Rattle.message.specs.Vet.{goodCompId, goodHeader, vet}
-use Rattle.message.proofs.LongestLaws.{body-longest, never-longer, never-above, longest-is, full-good}
+use Rattle.message.proofs.LongestLaws.{body-longest, never-longer, never-above, full-good}
 use Rattle.writer.specs.declared.write.Written.the-variants.{Wrote}
 use Rattle.writer.specs.Longest.{Attained}
 use Rattle.writer.specs.Plain.{headBytes, sealed, messageBytes, plainMessage, plainOf}
@@ -101,6 +102,6 @@ longest-reached messagetype k =
           (bytes-replicate 1 yes (omega arith)) (full-map-bytes rows) (plain-bytes rows (fullMap rows) (fullBody rows) (full-body-bytes rows));
       header = h;
       of-type = refl;
-      read = ap readOf (sym (append-nil s)) ∙ x .read ∙ ap (Good h) (longest-is messagetype k);
+      read = ap readOf (sym (append-nil s)) ∙ x .read ∙ ap (Good h) (longest-computed messagetype k);
       plain = ap plainOf (sym (append-nil s)) ∙ again;
     }

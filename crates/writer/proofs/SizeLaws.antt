@@ -17,6 +17,7 @@ use Rattle.tables.specs.Tables.{rowOf, tablesOf}
 use Rattle.tables.specs.Tables as table
 use Rattle.tables.specs.Types.{executionReportType}
 use Rattle.tables.proofs.Types.{within-is-type}
+use Rattle.wire.specs.declared.text.Allowed.the-variants.{Ascii}
 use Rattle.wire.specs.Map.{withPosition, withBit, bitAt, present}
 use Rattle.wire.specs.Number.{numberBytes}
 use Rattle.wire.specs.Search.{firstFrom}
@@ -105,12 +106,12 @@ module _ (number : ℕ) (password : List ℕ) (next : ℕ) where
   unfolding positions present bitAt positionOf standsAt isRowOf entry rowNumber firstFrom rowAt rowOf tablesOf unionAt table.logon
   logon-places = refl
 
-  logon-checks : (s : List ℕ) → (checkRow (rowOf 5 (positionOf (rowOf 5) Password)) s ≡ fixed (widthOf (sortOf Password)) s)
+  logon-checks : (s : List ℕ) → (checkRow (rowOf 5 (positionOf (rowOf 5) Password)) s ≡ fixed Ascii (widthOf (sortOf Password)) s)
       × (checkRow (rowOf 5 (positionOf (rowOf 5) NextExpectedMessageSequence)) (numberBytes 4 next) ≡ Good 4 4)
   unfolding positionOf standsAt isRowOf entry rowNumber firstFrom rowAt rowOf tablesOf unionAt table.logon checkRow checkSort sortOf widthOf whole numberBytes
   logon-checks s = (refl, refl)
 
-  module _ (h : takes (widthOf (sortOf Password)) password ≡ true) where
+  module _ (h : takes Ascii (widthOf (sortOf Password)) password ≡ true) where
     logon-walk : walkFrom (rowOf 5) (positions (mapOf 160) 8 0) 0 (fixedBytes (widthOf (sortOf Password)) password ++ numberBytes 4 next)
         ≡ Done 0 (0 + widthOf (sortOf Password) + 4)
     unfolding fixed fixedTaken
@@ -119,8 +120,8 @@ module _ (number : ℕ) (password : List ℕ) (next : ℕ) where
         let u = fixedBytes w password in
         let v = numberBytes 4 next in
         ap (λ (ps : List ℕ). walkFrom (rowOf 5) ps 0 (u ++ v)) logon-places
-        ∙ walk-two (rowOf 5) _ _ w 4 u v (length-fixedBytes w password (le-of-lt (taken w password h .room))) (length-numberBytes 4 next)
-        (logon-checks (u ++ v) .0 ∙ ap fixedTaken (fixed-again w password v h)) (logon-checks v .1)
+        ∙ walk-two (rowOf 5) _ _ w 4 u v (length-fixedBytes w password (le-of-lt (taken Ascii w password h .room))) (length-numberBytes 4 next)
+        (logon-checks (u ++ v) .0 ∙ ap fixedTaken (fixed-again Ascii w password v h)) (logon-checks v .1)
 
     pub logon-complete : Complete (logon number password next) 160 454
     unfolding mapWith withPosition withBit bitAt positionOf standsAt isRowOf entry rowNumber firstFrom rowAt rowOf tablesOf unionAt table.logon lowestUnknown lowestMissing lowest placeOf unknownAt unknownTo missingAt isKnown isRequired present sortOf widthOf
@@ -170,7 +171,7 @@ module _ (number : ℕ) (h : 1 ≤ number) (compId : List ℕ) (g : goodCompId c
   pub gap-fill-written : (new : ℕ) → 63 ≤ length d → sendOf (gapFill number new) compId d ≡ Wrote 63
   gap-fill-written new = complete-sent (computed number 0 0 0 new .5) compId d h g
 
-  pub logon-written : (password : List ℕ) (next : ℕ) → takes (widthOf (sortOf Password)) password ≡ true → 512 ≤ length d
+  pub logon-written : (password : List ℕ) (next : ℕ) → takes Ascii (widthOf (sortOf Password)) password ≡ true → 512 ≤ length d
       → logonOf number password next compId d ≡ Wrote 512
   unfolding logonOf
   logon-written password next t r = rw t (complete-sent (logon-complete number password next t) compId d h g r)

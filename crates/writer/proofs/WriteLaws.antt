@@ -9,6 +9,7 @@ use borrow.Author.Tests.{le-leb, lt-leb, leb-true}
 use lib.Dec.{leb}
 use lib.ListN.{length, take, drop, length-append, length-drop}
 use Rattle.crc.specs.Crc.{crc32c}
+use Rattle.wire.specs.declared.text.Allowed.the-variants.{Ascii}
 use Rattle.wire.specs.Laying.{laid}
 use Rattle.wire.specs.Number.{numberBytes}
 use Rattle.wire.specs.Text.{takes}
@@ -38,7 +39,7 @@ pub record HeaderGood (h : Header) (compId : List ℕ) : Type 0 where
   pub number : 1 ≤ h .number
   pub possdup : h .possdup ≤ 1
   pub possresend : h .possresend ≤ 1
-  pub text : takes 12 compId ≡ true
+  pub text : takes Ascii 12 compId ≡ true
 
 no : false ≡ true → ⊥
 no e = let z : _≡_ {A = ℕ} 0 1 = cc in omega arith
@@ -46,13 +47,13 @@ no e = let z : _≡_ {A = ℕ} 0 1 = cc in omega arith
 pub header-good : (h : Header) (compId : List ℕ) → goodHeader h compId ≡ true → HeaderGood h compId
 unfolding goodHeader goodCompId
 header-good h compId e =
-    let id = cond (leb 1 (length compId)) (takes 12 compId) false in
+    let id = cond (leb 1 (length compId)) (takes Ascii 12 compId) false in
     let resend = cond (leb (h .possresend) 1) id false in
     let dup = cond (leb (h .possdup) 1) resend false in
     let a = passed (leb 1 (h .number)) dup false true no e in
     let b = passed (leb (h .possdup) 1) resend false true no (a .1) in
     let c = passed (leb (h .possresend) 1) id false true no (b .1) in
-    let f = passed (leb 1 (length compId)) (takes 12 compId) false true no (c .1) in
+    let f = passed (leb 1 (length compId)) (takes Ascii 12 compId) false true no (c .1) in
     record {
       number = leb-true 1 (h .number) (a .0);
       possdup = leb-true (h .possdup) 1 (b .0);
@@ -74,7 +75,7 @@ unfolding sealed
 length-sealed bytes =
     length-append bytes (numberBytes 4 (crc32c bytes)) ∙ ap (λ (k : ℕ). length bytes + k) (length-numberBytes 4 (crc32c bytes))
 
-module _ (h : Header) (compId m fields : List ℕ) (u : takes 12 compId ≡ true) (l : length m ≡ 32) where
+module _ (h : Header) (compId m fields : List ℕ) (u : takes Ascii 12 compId ≡ true) (l : length m ≡ 32) where
   pub length-front : (n : ℕ) → length (headBytes n h compId m ++ fields) ≡ 54 + length fields
   length-front n =
       length-append (headBytes n h compId m) fields ∙ ap (λ (k : ℕ). k + length fields) (length-head n h compId m u l)
@@ -115,7 +116,7 @@ module _ (h : Header) (compId m body d : List ℕ) where
     vet-good : GoodMessage h compId m body plain
     vet-good = good-vetted h compId m body plain v
 
-    pub vetted-text : takes 12 compId ≡ true
+    pub vetted-text : takes Ascii 12 compId ≡ true
     vetted-text = header-good h compId (vet-good .header) .text
 
     pub vetted-low : ClearFrom 64 m

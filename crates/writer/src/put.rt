@@ -26,6 +26,7 @@ use wire::number::put_u16;
 use wire::number::put_u32;
 use wire::number::put_u64;
 use wire::number::read_eight;
+use wire::text::Allowed;
 use wire::text::copy_fixed;
 use wire::text::put_fixed;
 ghost use mathlib.Core.Path.{_≡_};
@@ -34,6 +35,7 @@ ghost use Prim.Native.Nat.{_-_, _≤_};
 ghost use lib.ListN.{length, take};
 ghost use Rattle.tables.specs.Longest.{frameBytes};
 ghost use Rattle.tables.specs.Tables.{rowOf};
+ghost use Rattle.wire.specs.declared.text.Allowed.the-variants.{Ascii};
 ghost use Rattle.wire.specs.Laying.{laid};
 ghost use Rattle.wire.specs.Map.{mapBytes};
 ghost use Rattle.wire.specs.Text.{takes};
@@ -69,8 +71,8 @@ pub(crate) fn put_fields(d: &mut [u8], messagetype: u8, map: &[u8], body: &[u8])
                 let next = behind(rest, 8);
                 rest = next;
             }
-            Shape::Fixed(width) => {
-                let laid = copy_fixed(&mut d[at..], width, rest);
+            Shape::Fixed(allowed, width) => {
+                let laid = copy_fixed(&mut d[at..], allowed, width, rest);
                 at += laid.besides();
                 let next = behind(rest, width);
                 rest = next;
@@ -112,11 +114,11 @@ fn put_map(d: &mut [u8], map: &[u8])
 
 // The bytes before the fields of a message of n bytes.
 pub(crate) fn put_head(d: &mut [u8], n: u16, header: Header, comp: &[u8], map: &[u8])
-    requires { ⌜ (bodyAt ≤ length (now d)) × (takes compIdBytes (now comp) ≡ true) × (length (now map) ≡ mapBytes) ⌝ }
+    requires { ⌜ (bodyAt ≤ length (now d)) × (takes Ascii compIdBytes (now comp) ≡ true) × (length (now map) ≡ mapBytes) ⌝ }
     ensures { λ _. ⌜ now (d .exit) ≡ laid (headBytes n header (now (comp .entry)) (now (map .entry))) (now (d .entry)) ⌝ }
 {
     put_values(d, n, header);
-    put_fixed(&mut d[COMP_ID_AT..], COMP_ID_BYTES, comp);
+    put_fixed(&mut d[COMP_ID_AT..], Allowed::Ascii, COMP_ID_BYTES, comp);
     put_map(&mut d[MAP_AT..], map);
 }
 

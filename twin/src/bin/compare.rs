@@ -14,13 +14,13 @@ use std::fmt::{Debug, Formatter};
 use std::io::Write;
 use std::process::{exit, Command, Stdio};
 use std::time::{Duration, Instant};
-use twin::make::{self, Event, Rng};
+use twin::make::{self, Event, Rng, Text};
 use twin::reader::{self, Head, A_FIELD};
 use twin::reports::LIST;
 use twin::session::{self, Ended, Phase, RowSort, A_ROW, A_SEND, LAST, NOT_A_SEND};
 use twin::session::{LAST_KIND, ROWS_A_STEP, ROW_PLACE, SENDS_A_STEP};
 use twin::tables::{self, types};
-use twin::wire::{self, Refusal, BODY_AT, MAP_WIDTH, TRAILER};
+use twin::wire::{self, Allowed, Refusal, BODY_AT, MAP_WIDTH, TRAILER};
 use twin::writer::{self, HeadValues, ToWrite};
 use twin::{crc, daysheet, plain, plan};
 
@@ -32,7 +32,7 @@ const ENOUGH: u32 = 10;
 // ---- Counting ----
 
 /// The categories, with their parts of a hundred of the random comparisons.
-const CATEGORIES: [(&str, u64); 12] = [
+const CATEGORIES: [(&str, u64); 13] = [
     ("short inputs", 7),
     ("valid messages", 27),
     ("writes, good and bad", 7),
@@ -43,6 +43,7 @@ const CATEGORIES: [(&str, u64); 12] = [
     ("crc32c", 1),
     ("decimals as text", 1),
     ("many messages in one call", 14),
+    ("texts, every character", 0),
     ("version", 0),
     ("daysheet", 0),
 ];
@@ -311,7 +312,7 @@ fn is_session(s: &proved::Session) -> bool {
     let count = s.comp_id.iter().position(|&byte| byte == 0).unwrap_or(12);
     let (characters, zeros) = s.comp_id.split_at(count);
     let good_comp_id = (1..=11).contains(&count)
-        && characters.iter().all(|byte| (32..=126).contains(byte))
+        && Allowed::Ascii.allows_all(characters)
         && zeros.iter().all(|&byte| byte == 0);
     // Down is before the first Connect, or after it; up is after a Logon.
     let least_own = if s.state == proved::DOWN { 1 } else { 2 };
@@ -846,7 +847,7 @@ fn writes(tally: &mut Tally, rng: &mut Rng, until: u64) {
 }
 
 fn fault(rng: &mut Rng, given: &mut ToWrite) {
-    match rng.below(10) {
+    match rng.below(11) {
         0 => given.head.message_type = 8 + rng.below(6) as u8,
         1 => given.head.message_type = rng.byte(),
         2 => given.head.number = 0,
@@ -862,7 +863,8 @@ fn fault(rng: &mut Rng, given: &mut ToWrite) {
             let at = rng.index(given.body.len());
             given.body[at] = [0, 1, 31, 127, 255, rng.byte()][rng.index(6)];
         }
-        8 => given.body.truncate(rng.index(given.body.len() + 1)),
+        8 => make::spoil_text(rng, given.head.message_type, &given.map, &mut given.body),
+        9 => given.body.truncate(rng.index(given.body.len() + 1)),
         _ => {
             let most = if rng.chance(90) { 9 } else { 5000 };
             let more = rng.index(most);
@@ -984,7 +986,7 @@ fn damage(tally: &mut Tally, rng: &mut Rng, until: u64) {
 
 /// A password that Connect should refuse: too long, or with a bad character.
 fn odd_password(rng: &mut Rng) -> Vec<u8> {
-    let mut password = rng.text(449);
+    let mut password = rng.text(449, Allowed::Ascii);
     if rng.chance(30) {
         password.resize(449 + rng.index(4), b'p');
     }
@@ -1246,7 +1248,7 @@ fn odd_sessions(tally: &mut Tally, rng: &mut Rng, until: u64) {
         hold_step(tally, s, &bytes);
         hold_drop(tally, s);
         let password = if rng.chance(50) {
-            rng.text(449)
+            rng.text(449, Allowed::Ascii)
         } else {
             odd_password(rng)
         };
@@ -1719,6 +1721,101 @@ fn many_messages(tally: &mut Tally, rng: &mut Rng, until: u64) {
     }
 }
 
+// ---- Texts, every character ----
+
+/// A message that is read, listed and stepped on, and written from its parts.
+fn hold_whole(tally: &mut Tally, given: &ToWrite) {
+    let bytes = make::framed(given);
+    hold_read(tally, &bytes);
+    hold_fields(tally, &bytes, LIST);
+    hold_step(tally, live_session(&given.comp_id), &bytes);
+    hold_write(tally, given, proved::LONGEST_WRITTEN);
+}
+
+/// A session that is up since the day's first Logon. With a bad Comp ID it is
+/// none.
+fn live_session(comp_id: &[u8]) -> proved::Session {
+    let [_, _, mut s] = small_sessions();
+    s.comp_id = [0; wire::COMP_ID_WIDTH];
+    s.comp_id[..comp_id.len()].copy_from_slice(comp_id);
+    s
+}
+
+/// Every text of every type, with all that there is to be tried in it.
+fn every_text(tally: &mut Tally) {
+    for message_type in 0..=types::LAST {
+        for text in make::texts(message_type) {
+            let position = match text {
+                Text::CompId => continue,
+                Text::At(position, _) => position,
+            };
+            for bytes in make::tried(text) {
+                let given = make::with_text(message_type, text, &bytes);
+                hold_whole(tally, &given);
+                hold_questions(tally, &make::framed(&given), position);
+            }
+        }
+    }
+}
+
+/// The same for the Comp ID, which all types share, in a Heartbeat and in what
+/// makes a session.
+fn every_comp_id(tally: &mut Tally) {
+    for bytes in make::tried(Text::CompId) {
+        let given = make::with_text(types::HEARTBEAT, Text::CompId, &bytes);
+        hold_whole(tally, &given);
+        let message = make::framed(&given);
+        hold_parts(tally, &message);
+        hold_step(tally, live_session(b"RECORDER01"), &message);
+        hold_fresh(tally, &bytes);
+        hold_saved(tally, &bytes, 1, 1);
+        hold_drop(tally, live_session(&bytes));
+    }
+}
+
+/// The same for the password, which Connect takes and its Logon bears.
+fn every_password(tally: &mut Tally) {
+    let [down, waiting, _] = small_sessions();
+    for bytes in make::tried(Text::At(0, tables::PASSWORD)) {
+        hold_connect(tally, down, &bytes);
+        hold_put_logon(tally, waiting, &bytes, LOGON_LENGTH);
+    }
+}
+
+/// All accented characters in every text that may hold them, with all questions
+/// about the message.
+fn every_accent(tally: &mut Tally, rng: &mut Rng) {
+    let accents: Vec<u8> = (128..=u8::MAX).collect();
+    for message_type in 0..=types::LAST {
+        let mut texts = make::texts(message_type);
+        texts.retain(|text| text.allowed() == Allowed::Accented);
+        for text in texts {
+            for bytes in accents.chunks(text.full()) {
+                let given = make::with_text(message_type, text, bytes);
+                let bytes = make::framed(&given);
+                hold_whole(tally, &given);
+                hold_parts(tally, &bytes);
+                for position in 0..=44 {
+                    hold_questions(tally, &bytes, position);
+                }
+                for room in list_rooms(rng, &bytes) {
+                    hold_fields(tally, &bytes, room);
+                }
+                for room in rooms(rng, written_length(&given)) {
+                    hold_write(tally, &given, room);
+                }
+            }
+        }
+    }
+}
+
+fn texts(tally: &mut Tally, rng: &mut Rng, _: u64) {
+    every_accent(tally, rng);
+    every_text(tally);
+    every_comp_id(tally);
+    every_password(tally);
+}
+
 // ---- Version ----
 
 /// The twin's version, which is the library's too, in one number as the library
@@ -1879,6 +1976,7 @@ fn main() {
         sums,
         decimals,
         many_messages,
+        texts,
         versions,
     ];
     // Each category has a generator of its own, so that none moves another.

@@ -37,15 +37,15 @@ read-eight-requires c κs = search needs
 lay-five-requires-2 : tie.Need-lay-five-requires-2
 lay-five-requires-2 c κs = search needs
 
-enum-known-width-2 : tie.Need-enum-known-width-2
-enum-known-width-2 c = search needs
+enum-known-allowed : tie.Need-enum-known-allowed
+enum-known-allowed c = search needs
 
 slice-aggregate-characters-in : tie.Need-slice-aggregate-characters-in
 slice-aggregate-characters-in c =
     let z = c .before .before .before .before .before .before .before .before .before in
     let a = z .args in
     let good = z .pre .1 .1 in
-    sym (length-take-le _ (a .s .now) (quick-fixed-room (a .messagetype) (a .p) (a .whole) (a .s .now) good _ (sym (c .before .before .before .before .before .shape-at .ensures) ∙ c .before .before .before .width2 .given .1)))
+    sym (length-take-le _ (a .s .now) (quick-fixed-room (a .messagetype) (a .p) (a .whole) (a .s .now) good _ _ (sym (c .before .before .before .before .before .shape-at .ensures) ∙ c .before .before .before .allowed .given .1)))
 
 characters-in-requires : tie.Need-characters-in-requires
 characters-in-requires c κs = search needs
@@ -87,7 +87,7 @@ returns-3 c =
     let z = c .before .before .before .before .before .before .before .before .before .before .before .before .before in
     let a = z .args in
     let good = z .pre .1 .1 in
-    quick-fixed (a .messagetype) (a .p) (a .whole) (a .s .now) good _ (sym (c .before .before .before .before .before .before .before .before .before .shape-at .ensures) ∙ c .before .before .before .before .before .before .before .width2 .given .1) _ (a .d .now) _ (c .before .before .before .characters-in .ensures) (c .before .before .lay-five3 .ensures)
+    quick-fixed (a .messagetype) (a .p) (a .whole) (a .s .now) good _ _ (sym (c .before .before .before .before .before .before .before .before .before .shape-at .ensures) ∙ c .before .before .before .before .before .before .before .allowed .given .1) _ (a .d .now) _ (c .before .before .before .characters-in .ensures) (c .before .before .lay-five3 .ensures)
 
 same-length-4 : tie.Need-same-length-4
 same-length-4 c = search needs
@@ -108,7 +108,7 @@ lay-field-spec =
     enum-told
     read-eight-requires
     lay-five-requires-2
-    enum-known-width-2
+    enum-known-allowed
     slice-aggregate-characters-in
     characters-in-requires
     lay-five-requires-3

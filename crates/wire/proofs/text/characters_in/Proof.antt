@@ -15,16 +15,16 @@ use Rattle.wire.proofs.text.characters_in.Statement.{statement}
 use Rattle.wire.proofs.text.characters_in.Tie as tie
 
 abbrev Inv-loop : tie.InvT-loop
-Inv-loop s i₀ i = (i ≤ length s) × (i + characters (drop i s) ≡ characters s)
+Inv-loop allowed s i₀ i = (i ≤ length s) × (i + characters allowed (drop i s) ≡ characters allowed s)
 
 abbrev μ-loop : tie.MeasureT-loop
-μ-loop s i₀ i = length s - i
+μ-loop allowed s i₀ i = length s - i
 
 abbrev Inv-loop2 : tie.InvT-loop2
-Inv-loop2 s i₀ i = (i ≤ length s) × (i + characters (drop i s) ≡ characters s)
+Inv-loop2 allowed s i₀ i = (i ≤ length s) × (i + characters allowed (drop i s) ≡ characters allowed s)
 
 abbrev μ-loop2 : tie.MeasureT-loop2
-μ-loop2 s i₀ i = length s - i
+μ-loop2 allowed s i₀ i = length s - i
 
 loop-holds : tie.Need-loop-holds Inv-loop μ-loop Inv-loop2 μ-loop2
 loop-holds c = (search needs, zero-add _)
@@ -54,7 +54,7 @@ returns : tie.Need-returns Inv-loop μ-loop Inv-loop2 μ-loop2
 returns c =
     let l = c .before .before .before .before in
     let o = c .before .outside in
-    stops-within (l .before .before .args .s .now) (l .loop .i) (o .result) (l .loop .inv .1) (o .ensures) (omega arith) (c .if1 .taken)
+    stops-within _ (l .before .before .args .s .now) (l .loop .i) (o .result) (l .loop .inv .1) (o .ensures) (omega arith) (c .if1 .taken)
 
 add-i : tie.Need-add-i Inv-loop μ-loop Inv-loop2 μ-loop2
 add-i c = search needs
@@ -66,7 +66,7 @@ loop-again : tie.Need-loop-again Inv-loop μ-loop Inv-loop2 μ-loop2
 loop-again c =
     let l = c .before .before .before .before in
     let o = c .before .outside in
-    (omega arith, eight-more (l .before .before .args .s .now) (l .loop .i) (o .result) (l .loop .inv .1) (o .ensures) (c .if1 .left))
+    (omega arith, eight-more _ (l .before .before .args .s .now) (l .loop .i) (o .result) (l .loop .inv .1) (o .ensures) (c .if1 .left))
 
 loop2-holds : tie.Need-loop2-holds Inv-loop μ-loop Inv-loop2 μ-loop2
 loop2-holds c = c .before .loop .inv
@@ -80,7 +80,7 @@ is-character-requires c κs = search needs
 returns-2 : tie.Need-returns-2 Inv-loop μ-loop Inv-loop2 μ-loop2
 returns-2 c =
     let l = c .before .before .before .before in
-    count-ends (l .before .before .before .before .args .s .now) (l .loop2 .i) (l .loop2 .inv .1) (omega arith)
+    count-ends _ (l .before .before .before .before .args .s .now) (l .loop2 .i) (l .loop2 .inv .1) (omega arith)
     (sym (c .before .is-character .ensures) ∙ not-true _ (c .if2 .taken))
 
 add-i-2 : tie.Need-add-i-2 Inv-loop μ-loop Inv-loop2 μ-loop2
@@ -93,14 +93,14 @@ loop2-again : tie.Need-loop2-again Inv-loop μ-loop Inv-loop2 μ-loop2
 loop2-again c =
     let l = c .before .before .before .before in (
       omega arith,
-      count-next (l .before .before .before .before .args .s .now) (l .loop2 .i) (l .loop2 .inv .1) (omega arith)
+      count-next _ (l .before .before .before .before .args .s .now) (l .loop2 .i) (l .loop2 .inv .1) (omega arith)
           (sym (c .before .is-character .ensures) ∙ not-false _ (c .if2 .left)),
     )
 
 returns-3 : tie.Need-returns-3 Inv-loop μ-loop Inv-loop2 μ-loop2
 returns-3 c =
     let l = c .before in
-    count-done (l .before .before .before .before .args .s .now) (l .loop2 .i) (l .loop2 .inv .1) (omega arith)
+    count-done _ (l .before .before .before .before .args .s .now) (l .loop2 .i) (l .loop2 .inv .1) (omega arith)
 
 pub characters-in-spec : {M : Type 1} → statement M
 characters-in-spec =

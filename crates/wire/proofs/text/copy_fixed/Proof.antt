@@ -16,7 +16,7 @@ fixed-part-requires c κs = search needs
 lay-fixed-requires : tie.Need-lay-fixed-requires
 lay-fixed-requires c κs =
     let a = c .before .before .before .before .args in
-    subst (λ (t : List ℕ). length t ≤ a .width) (sym (c .fixed-part .ensures)) (fixed-fits (a .width) (a .s .now))
+    subst (λ (t : List ℕ). length t ≤ a .width) (sym (c .fixed-part .ensures)) (fixed-fits _ (a .width) (a .s .now))
 
 same-length : tie.Need-same-length
 same-length c = search needs

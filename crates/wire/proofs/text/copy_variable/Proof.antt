@@ -18,8 +18,8 @@ lay-variable-requires : tie.Need-lay-variable-requires
 lay-variable-requires c κs =
     let e = c .before .before in
     let a = e .before .before .args in
-    let p = variablePart (a .size) (a .s .now) in
-    let f : length p + 1 < 256 ^ 2 = variable-fits (a .size) (a .s .now) (λ k. e .shared-slice-known .given k .fits) in
+    let p = variablePart (a .allowed) (a .size) (a .s .now) in
+    let f : length p + 1 < 256 ^ 2 = variable-fits _ (a .size) (a .s .now) (λ k. e .shared-slice-known .given k .fits) in
     let m : length (c .variable-part .result .now) ≡ length p = ap length (c .variable-part .ensures) in
     omega arith
 

@@ -20,15 +20,15 @@ returns c =
     let l = c .before .before .before in
     let n = l .characters-in in
     let s = l .before .before .args .s .now in
-    sym (null-here s (n .result) (n .ensures) (omega arith) (eqb-true (getD s (n .result) 0) 0 (c .if2 .taken)))
+    sym (null-here _ s (n .result) (n .ensures) (omega arith) (eqb-true (getD s (n .result) 0) 0 (c .if2 .taken)))
 
 returns-2 : tie.Need-returns-2
 returns-2 c =
     let n = c .before .characters-in in
     let s = c .before .before .before .args .s .now in
     ⊎-elim
-    (λ w. sym (null-stopped s (n .result) (n .ensures) (w .0 .taken) (eqb-false (getD s (n .result) 0) 0 (w .2 .left))))
-    (λ w. sym (null-missing s (n .result) (n .ensures) (w .left)))
+    (λ w. sym (null-stopped _ s (n .result) (n .ensures) (w .0 .taken) (eqb-false (getD s (n .result) 0) 0 (w .2 .left))))
+    (λ w. sym (null-missing _ s (n .result) (n .ensures) (w .left)))
     (c .if1 .came)
 
 pub null-in-spec : {M : Type 1} → statement M

@@ -100,8 +100,8 @@ add-at-2 c =
 behind-requires-2 : tie.Need-behind-requires-2 Inv-loop μ-loop
 behind-requires-2 c κs = search needs
 
-enum-known-width-2 : tie.Need-enum-known-width-2 Inv-loop μ-loop
-enum-known-width-2 c = search needs
+enum-known-allowed : tie.Need-enum-known-allowed Inv-loop μ-loop
+enum-known-allowed c = search needs
 
 sub-copy-fixed : tie.Need-sub-copy-fixed Inv-loop μ-loop
 sub-copy-fixed c = fill-within (c .before .before .before .before .before .loop .inv)
@@ -126,7 +126,7 @@ add-at-3 c =
     let l = h .before .before in
     omega (
       arith,
-      put-fits (l .loop .inv) (h .before .loop-test .taken) _ (at-fixed _ _ _ _ (sym (h .shape-at .ensures) ∙ w .width2 .given .1) .plain) _ _ (f .copy-fixed .ensures .0) (c .besides3 .ensures),
+      put-fits (l .loop .inv) (h .before .loop-test .taken) _ (at-fixed _ _ _ _ _ (sym (h .shape-at .ensures) ∙ w .allowed .given .1) .plain) _ _ (f .copy-fixed .ensures .0) (c .besides3 .ensures),
       l .before .before .before .before .before .good .0,
     )
 
@@ -197,7 +197,7 @@ loop-again c =
     put-on i t _ (s .plain) _ _ (w .3 .ensures .0) (w .6 .ensures) _ _ _ _ _ (w .3 .ensures .1) (s .taken) (w .8) (w .9) (ap now (w .10) ∙ w .7 .ensures))
     (⊎-elim
     (λ w.
-    let s = at-fixed _ _ _ _ (sym (h .shape-at .ensures) ∙ w .1 .given .1) in
+    let s = at-fixed _ _ _ _ _ (sym (h .shape-at .ensures) ∙ w .1 .given .1) in
     put-on i t _ (s .plain) _ _ (w .4 .ensures .0) (w .7 .ensures) _ _ _ _ _ (w .4 .ensures .1) (s .taken) (w .9) (w .10) (ap now (w .11) ∙ w .8 .ensures))
     (λ w.
     put-on i t _ refl _ _ (w .3 .ensures .0) (w .6 .ensures) _ _ _ _ _ (w .3 .ensures .1) (sym (w .7 .ensures)) (w .9) (w .10) (ap now (w .11) ∙ w .8 .ensures))))
@@ -235,7 +235,7 @@ put-fields-spec =
     besides-requires-2
     add-at-2
     behind-requires-2
-    enum-known-width-2
+    enum-known-allowed
     sub-copy-fixed
     part-copy-fixed-start
     part-copy-fixed-end
