@@ -348,6 +348,12 @@ fn variable_texts() {
     assert_eq!(long(76), Err(refuse(9, 0)));
 }
 
+/// Texts of which Text and Reason alone may be (document 02, item 8).
+const ACCENTED: [&[u8]; 4] = [b"\x80", b"\xFF", b"Caf\xE9 M\xFCller", b"\x9F\xA0"];
+
+/// What no text may be.
+const NO_TEXTS: [&[u8]; 6] = [b"\x7F", b"\x1F", b"\x01", b"\n", b"\xE9\x7F", b"\xE9\x1F"];
+
 /// Document 02, item 8: the wide set has 128 to 255 besides, and both leave out
 /// 127 and what is below 32.
 #[test]
@@ -372,7 +378,7 @@ fn text_reader_takes_the_set() {
         let bytes = [good, b"\0\x7F\xE9"].concat();
         assert_eq!(texts_in(&bytes), [Some(good); 2]);
     }
-    for accented in [&b"\x80"[..], b"\xFF", b"Caf\xE9", b"\x9F\xA0 "] {
+    for accented in ACCENTED {
         let bytes = [accented, b"\0\x7F\xE9"].concat();
         assert_eq!(texts_in(&bytes), [None, Some(accented)]);
     }
@@ -430,18 +436,9 @@ fn free_texts(text: &[u8]) -> [FreeText; 6] {
 fn accented_texts() {
     let first: Vec<u8> = (128..=176).collect();
     let last: Vec<u8> = (207..=255).collect();
-    for text in [
-        &b""[..],
-        b"plain",
-        b"\x80",
-        b"\xFF",
-        b"\x9F\xA0",
-        b"Caf\xE9 M\xFCller",
-        // What UTF-8 makes of an e with its accent, and of a euro sign.
-        b"\xC3\xA9 \xE2\x82\xAC",
-        &first,
-        &last,
-    ] {
+    // The third is what UTF-8 makes of an e with its accent and of a euro sign.
+    let others = [&b""[..], b"plain", b"\xC3\xA9 \xE2\x82\xAC", &first, &last];
+    for &text in ACCENTED.iter().chain(&others) {
         for FreeText { message, position } in free_texts(text) {
             assert_eq!(reader::read(&message).unwrap().length, message.len());
             assert_eq!(plain::read(&message), reader::read(&message));
@@ -458,17 +455,13 @@ fn accented_texts() {
         assert_eq!(reader::ask_text(&message, position), Ok(&b"\xE9"[..]));
         assert_eq!(plain::ask_text(&message, position), Ok(&b"\xE9"[..]));
     }
-    for text in [
-        &b"\x7F"[..],
-        b"\x1F",
-        b"\x01",
-        b"\n",
-        b"A\x7F",
-        b"\xE9\x7F",
+    let others = [
+        &b"A\x7F"[..],
         b"\x7F\xE9",
         b"\xFF\xFF\xFF\xFF\xFF\xFF\xFF\x7F\xFF",
         b"\x80\x80\x80\x80\x80\x80\x80\x80\x1F",
-    ] {
+    ];
+    for &text in NO_TEXTS.iter().chain(&others) {
         for FreeText { message, position } in free_texts(text) {
             let refused = Err(refuse(9, position as usize));
             assert_eq!(reader::read(&message), refused);
@@ -777,17 +770,18 @@ fn text_writer() {
 /// Document 02, item 8: the caller says which characters the text writer takes.
 #[test]
 fn text_writer_takes_the_set() {
-    for text in [&b"\x80"[..], b"\xFF", b"Caf\xE9", b"\x9F\xA0"] {
-        let mut out = [0xEE; 8];
-        let narrow = writer::put_text(text, 6, Allowed::Ascii, &mut out);
+    for text in ACCENTED {
+        let mut out = [0xEE; 14];
+        let narrow = writer::put_text(text, 12, Allowed::Ascii, &mut out);
         assert_eq!(narrow, Err(refuse(9, 0)));
-        assert_eq!(out, [0xEE; 8]);
-        let wide = writer::put_text(text, 6, Allowed::Accented, &mut out);
-        assert_eq!(wide, Ok(6));
-        assert_eq!(out[..6], padded(text, 6));
-        assert_eq!(out[6..], [0xEE; 2]);
+        assert_eq!(out, [0xEE; 14]);
+        let wide = writer::put_text(text, 12, Allowed::Accented, &mut out);
+        assert_eq!(wide, Ok(12));
+        assert_eq!(out[..12], padded(text, 12));
+        assert_eq!(out[12..], [0xEE; 2]);
     }
-    for text in [&b"\x7F"[..], b"\xE9\x7F", b"\x1F", b"\0", b"\xE9\0"] {
+    // The writer is given no null.
+    for &text in NO_TEXTS.iter().chain(&[&b"\0"[..], b"\xE9\0"]) {
         for allowed in [Allowed::Ascii, Allowed::Accented] {
             let mut out = [0xEE; 8];
             let answer = writer::put_text(text, 6, allowed, &mut out);
@@ -820,7 +814,7 @@ fn written_again(message: &[u8]) -> Result<Vec<u8>, Refusal> {
 
 #[test]
 fn accented_texts_are_written() {
-    for text in [&b"\x80"[..], b"\xFF", b"Caf\xE9 M\xFCller", b"\x9F\xA0"] {
+    for text in ACCENTED {
         for FreeText { message, .. } in free_texts(text) {
             assert_eq!(written_again(&message), Ok(message));
         }
@@ -830,7 +824,7 @@ fn accented_texts_are_written() {
             assert_eq!(written_again(&long.message), Ok(short.message));
         }
     }
-    for text in [&b"\x7F"[..], b"\xE9\x7F", b"\xE9\x1F"] {
+    for text in NO_TEXTS {
         for FreeText { message, position } in free_texts(text) {
             let refused = Err(refuse(9, position as usize));
             assert_eq!(written_again(&message), refused);
