@@ -30,8 +30,8 @@ extern "C" {
  * The version of this header. The library that was linked tells its own as one number, made as FEATHERLOOM_VERSION is. Compare
  * the two before any other call: where they differ, structs and functions may differ as well.
  */
-#define FEATHERLOOM_VERSION_MAJOR 3
-#define FEATHERLOOM_VERSION_MINOR 1
+#define FEATHERLOOM_VERSION_MAJOR 4
+#define FEATHERLOOM_VERSION_MINOR 0
 #define FEATHERLOOM_VERSION_PATCH 0
 #define FEATHERLOOM_VERSION \
     (10000 * FEATHERLOOM_VERSION_MAJOR + 100 * FEATHERLOOM_VERSION_MINOR + FEATHERLOOM_VERSION_PATCH)
@@ -68,6 +68,7 @@ enum {
     FEATHERLOOM_STOP_RESEND = 34,     /* stopped: a bad Resend Request */
     FEATHERLOOM_STOP_NEXT = 35,       /* stopped: a Next Expected of 0 or above O */
     FEATHERLOOM_STOP_LAST = 36,       /* stopped: the gateway's numbers are used up */
+    FEATHERLOOM_STOP_REPEATS = 37,    /* stopped: asked again twice from the same E, and the answer still has a hole at it */
     FEATHERLOOM_BAD_REQUEST = 40,     /* a plan's list, Start or End is bad */
     FEATHERLOOM_NOT_A_SESSION = 90,   /* no day has such a session: it comes back as it was */
     FEATHERLOOM_NOT_A_SEND = 91       /* no session gives such a message to send; of a Logon: this session has none to send */
@@ -301,9 +302,9 @@ featherloom_written featherloom_decimal_text(uint8_t *buffer, size_t room, int64
 
 /*
  * The session of one day. It is a value: give it to a call, keep the one that comes back. Every call checks it first, and
- * refuses with FEATHERLOOM_NOT_A_SESSION a session that no day has. One that some day has: the state is 0, 1 or 2; the Comp
- * ID has 1 to 11 characters and then zeros; E is at least 1; O is at least 1 if Down, else 2; M is 0, or the session is Live,
- * M is at least 2 and at least E, and O is at least 3.
+ * refuses with FEATHERLOOM_NOT_A_SESSION a session that no day has. One that passes: the state is 0, 1 or 2; the Comp
+ * ID has 1 to 11 characters and then zeros; E is at least 1; O is at least 1 if Down, else 2; M and the repeats are 0, or the
+ * session is Live, M is at least 2 and at least E, there are at most 2 repeats, and O is at least 3 more than they are.
  *
  * What a call gives back may be kept, beside a refusal too. After a Stop it is a session like any other: it is Down, and
  * Connect may be called on it. Where a call changes nothing it is the session that was given. Only featherloom_fresh and
@@ -318,6 +319,7 @@ typedef struct featherloom_session {
     uint32_t expected;   /* E, the number expected next */
     uint32_t own;        /* O, our next number */
     uint32_t ahead;      /* M, the number ahead that made us ask; 0 for none */
+    uint32_t repeats;    /* how often we have asked again from this E while M stands: 0, 1 or 2 */
 } featherloom_session;
 
 /* A session; on a refusal of fresh or saved it is one that every call refuses, and of drop the one that was given. */
@@ -514,20 +516,21 @@ FEATHERLOOM_ASSERT(sizeof(featherloom_listed) == 40);
 FEATHERLOOM_ASSERT(sizeof(featherloom_header) == 8);
 FEATHERLOOM_ASSERT(offsetof(featherloom_header, number) == 4);
 FEATHERLOOM_ASSERT(sizeof(featherloom_written) == 24);
-FEATHERLOOM_ASSERT(sizeof(featherloom_session) == 28);
-FEATHERLOOM_ASSERT(sizeof(featherloom_made) == 32);
-FEATHERLOOM_ASSERT(sizeof(featherloom_connected) == 48);
-FEATHERLOOM_ASSERT(offsetof(featherloom_connected, besides) == 40);
+FEATHERLOOM_ASSERT(sizeof(featherloom_session) == 32);
+FEATHERLOOM_ASSERT(sizeof(featherloom_made) == 36);
+FEATHERLOOM_ASSERT(sizeof(featherloom_connected) == 56);
+FEATHERLOOM_ASSERT(offsetof(featherloom_connected, besides) == 48);
 FEATHERLOOM_ASSERT(sizeof(featherloom_send) == 16);
 FEATHERLOOM_ASSERT(sizeof(featherloom_row) == 12);
 FEATHERLOOM_ASSERT(sizeof(featherloom_stepped) == 96);
+FEATHERLOOM_ASSERT(offsetof(featherloom_stepped, first) == 36);
 FEATHERLOOM_ASSERT(offsetof(featherloom_stepped, used) == 80);
 FEATHERLOOM_ASSERT(offsetof(featherloom_stepped, besides) == 88);
 FEATHERLOOM_ASSERT(sizeof(featherloom_placed) == 4 * FEATHERLOOM_A_ROW);
 FEATHERLOOM_ASSERT(sizeof(featherloom_send) == 4 * FEATHERLOOM_A_SEND);
-FEATHERLOOM_ASSERT(sizeof(featherloom_done) == 72);
-FEATHERLOOM_ASSERT(offsetof(featherloom_done, ended) == 56);
-FEATHERLOOM_ASSERT(offsetof(featherloom_done, besides) == 64);
+FEATHERLOOM_ASSERT(sizeof(featherloom_done) == 80);
+FEATHERLOOM_ASSERT(offsetof(featherloom_done, ended) == 64);
+FEATHERLOOM_ASSERT(offsetof(featherloom_done, besides) == 72);
 FEATHERLOOM_ASSERT(sizeof(featherloom_planned) == 16);
 #undef FEATHERLOOM_ASSERT
 

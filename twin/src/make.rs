@@ -804,10 +804,31 @@ pub fn arrival(rng: &mut Rng, session: &Session) -> Vec<u8> {
     bytes
 }
 
-/// A history with connects and drops, `count` events long, or shorter where the
-/// numbers are spent. The twin's own session is led along, so that the numbers
-/// stay close to what is expected.
-pub fn events(rng: &mut Rng, start: &Start, count: usize) -> Vec<Event> {
+/// What arrives next at a session in this state, one message or more in turn.
+type Arrivals = fn(&mut Rng, &Session) -> Vec<Vec<u8>>;
+
+fn one_arrival(rng: &mut Rng, session: &Session) -> Vec<Vec<u8>> {
+    vec![arrival(rng, session)]
+}
+
+/// Does to a session what the event says.
+fn lead(session: &mut Session, event: &Event) {
+    match event {
+        Event::Connect(password) => {
+            let _ = session.connect(password);
+        }
+        Event::Drop => session.drop(),
+        Event::Lend(bytes) => {
+            session.step(bytes);
+        }
+    }
+}
+
+/// A history with connects and drops, `count` events long or a little more, or
+/// shorter where the numbers are spent. The twin's own session is led along, so
+/// that the numbers stay close to what is expected. Of a hundred events `odd` are
+/// drops, as many connects at any time, and as many arrivals.
+fn day(rng: &mut Rng, start: &Start, count: usize, odd: u64, arrivals: Arrivals) -> Vec<Event> {
     let mut session =
         Session::saved(&start.comp_id, start.e, start.o).expect("a start is a good state");
     let mut all = Vec::new();
@@ -817,25 +838,28 @@ pub fn events(rng: &mut Rng, start: &Start, count: usize) -> Vec<Event> {
         if down && (session.o == LAST || session.e == LAST) {
             spent += 1;
         }
-        let event = match rng.below(100) {
-            0 => Event::Drop,
-            1 => Event::Connect(rng.text(451, Allowed::Ascii)),
-            2 => Event::Lend(arrival(rng, &session)),
-            _ if down => Event::Connect(rng.text(449, Allowed::Ascii)),
-            _ => Event::Lend(arrival(rng, &session)),
+        let drawn = rng.below(100);
+        let events = if drawn < odd {
+            vec![Event::Drop]
+        } else if drawn < 2 * odd {
+            vec![Event::Connect(rng.text(451, Allowed::Ascii))]
+        } else if down && drawn >= 3 * odd {
+            vec![Event::Connect(rng.text(449, Allowed::Ascii))]
+        } else {
+            let arrived = arrivals(rng, &session);
+            arrived.into_iter().map(Event::Lend).collect()
         };
-        match &event {
-            Event::Connect(password) => {
-                let _ = session.connect(password);
-            }
-            Event::Drop => session.drop(),
-            Event::Lend(bytes) => {
-                session.step(bytes);
-            }
+        for event in events {
+            lead(&mut session, &event);
+            all.push(event);
         }
-        all.push(event);
     }
     all
+}
+
+/// A history of all sorts of arrivals.
+pub fn events(rng: &mut Rng, start: &Start, count: usize) -> Vec<Event> {
+    day(rng, start, count, 1, one_arrival)
 }
 
 /// A history of messages alone, for a session that was made from `start` and
@@ -858,32 +882,228 @@ pub fn history(rng: &mut Rng, start: &Start, count: usize) -> Vec<Vec<u8>> {
     all
 }
 
-/// Messages back to back for a session in this state, at most `count`, now and
-/// then cut short. The session is led along as in `events`. What shifts the
-/// messages behind it, or ends the session, is mostly left out: else few slices
-/// would hold more than two or three messages that are stepped on.
-pub fn slice(rng: &mut Rng, session: &Session, count: usize) -> Vec<u8> {
+/// Messages back to back for a session in this state, of at most `count`
+/// arrivals, now and then cut short. The session is led along as in `day`. What
+/// shifts the messages behind it, or ends the session, is mostly left out: else
+/// few slices would hold more than two or three messages that are stepped on.
+fn back_to_back(rng: &mut Rng, session: &Session, count: usize, arrivals: Arrivals) -> Vec<u8> {
     let mut session = session.clone();
     let mut all = Vec::new();
     for _ in 0..count {
-        let mut bytes = arrival(rng, &session);
-        let mut next = session.clone();
-        let code = next.step(&bytes).code;
-        let ends = session.phase != Phase::Down && next.phase == Phase::Down;
-        if ends && !rng.chance(20) {
-            continue;
+        for mut bytes in arrivals(rng, &session) {
+            let mut next = session.clone();
+            let code = next.step(&bytes).code;
+            let ends = session.phase != Phase::Down && next.phase == Phase::Down;
+            if ends && !rng.chance(20) {
+                continue;
+            }
+            let whole = session::used(code, &bytes);
+            if whole > 0 && !rng.chance(3) {
+                bytes.truncate(whole);
+            }
+            all.extend(bytes);
+            session = next;
         }
-        let whole = session::used(code, &bytes);
-        if whole > 0 && !rng.chance(3) {
-            bytes.truncate(whole);
-        }
-        all.extend(bytes);
-        session = next;
     }
     if rng.chance(30) {
         all.truncate(rng.index(all.len() + 1));
     }
     all
+}
+
+/// A slice of all sorts of arrivals.
+pub fn slice(rng: &mut Rng, session: &Session, count: usize) -> Vec<u8> {
+    back_to_back(rng, session, count, one_arrival)
+}
+
+// ---- Days with holes in the answer (document 02, item 3) ----
+
+/// A message to make, by what the session's rules look at in it.
+#[derive(Clone, Copy, Debug, PartialEq, Eq)]
+pub enum Sent {
+    /// One of a type whose fields the rules do not look at, or only to answer.
+    Of(u8),
+    ResendRequest {
+        start: u32,
+        end: u32,
+    },
+    GapFill {
+        new: u32,
+    },
+    /// A Sequence Reset that is no gap fill.
+    Reset {
+        new: u32,
+    },
+}
+
+/// The message, with this number and PossDup.
+pub fn sent(rng: &mut Rng, comp_id: &[u8], number: u32, poss_dup: u8, what: Sent) -> Vec<u8> {
+    let (message_type, fixed) = match what {
+        Sent::Of(message_type) => (message_type, Vec::new()),
+        Sent::ResendRequest { start, end } => {
+            let range = vec![(0, bytes_of(start)), (1, bytes_of(end))];
+            (types::RESEND_REQUEST, range)
+        }
+        Sent::GapFill { new } => {
+            let fields = vec![(0, Some(vec![b'Y'])), (1, bytes_of(new))];
+            (types::SEQUENCE_RESET, fields)
+        }
+        Sent::Reset { new } => {
+            let mark = rng.chance(50).then(|| vec![b'N']);
+            (types::SEQUENCE_RESET, vec![(0, mark), (1, bytes_of(new))])
+        }
+    };
+    let given = Given {
+        message_type,
+        number,
+        poss_dup,
+        poss_resend: rng.chance(10) as u8,
+        comp_id,
+    };
+    message_with(rng, &given, &fixed)
+}
+
+/// Spoils a message so that its sum is wrong and its Length is not: it is dropped,
+/// and the next one is found behind it.
+pub fn spoil_sum(rng: &mut Rng, mut bytes: Vec<u8>) -> Vec<u8> {
+    const BEHIND_LENGTH: usize = 3;
+    let at = BEHIND_LENGTH + rng.index(bytes.len() - BEHIND_LENGTH);
+    bytes[at] ^= 1 << rng.below(8);
+    bytes
+}
+
+/// Start and End of a bad Resend Request: a Start of 0, one that we have not
+/// reached, or an End before it.
+fn bad_range(rng: &mut Rng, o: u32) -> (u32, u32) {
+    match rng.below(3) {
+        0 => (0, rng.any_u32()),
+        1 => (o.saturating_add(rng.below(3) as u32), 0),
+        _ => {
+            let start = below(rng, o).max(2);
+            (start, below(rng, start))
+        }
+    }
+}
+
+/// What may arrive under a number: everything that rule 7 meets ahead of E. A few
+/// of the Resend Requests and gap fills are bad ones.
+fn any_sent(rng: &mut Rng, number: u32, o: u32) -> Sent {
+    const FIELDS_DO_NOT_MATTER: [u8; 5] = [
+        types::BUSINESS_MESSAGE_REJECT,
+        types::EXECUTION_REPORT,
+        types::HEARTBEAT,
+        types::TEST_REQUEST,
+        types::REJECT,
+    ];
+    let range = |(start, end)| Sent::ResendRequest { start, end };
+    match rng.below(30) {
+        0..=5 => range(resend_range(rng, o)),
+        6..=8 => range(bad_range(rng, o)),
+        9..=12 => Sent::GapFill {
+            new: above(rng, number),
+        },
+        13 => Sent::GapFill { new: number },
+        _ => Sent::Of(FIELDS_DO_NOT_MATTER[rng.index(FIELDS_DO_NOT_MATTER.len())]),
+    }
+}
+
+/// A message of any sort with this number and PossDup.
+fn any_with(rng: &mut Rng, session: &Session, number: u32, poss_dup: u8) -> Vec<u8> {
+    let any = any_sent(rng, number, session.o);
+    sent(rng, &session.comp_id, number, poss_dup, any)
+}
+
+/// The next message on a line that loses and spoils some. It mostly lies ahead of
+/// E: while nothing is asked for it opens a hole, and then it tells of one.
+fn on_bad_line(rng: &mut Rng, session: &Session) -> Vec<u8> {
+    let e = session.e;
+    if session.phase != Phase::Live || e == LAST || rng.chance(4) {
+        return arrival(rng, session);
+    }
+    let ahead = above(rng, e);
+    let either = rng.below(2) as u8;
+    if session.m == 0 && rng.chance(70) {
+        return any_with(rng, session, ahead, either);
+    }
+    let comp_id = &session.comp_id;
+    // Where our numbers are used up the order of the refusals shows. The next
+    // message mostly ends such a day, so what shows it comes more often.
+    if session.o == LAST && rng.chance(50) {
+        if either == 0 {
+            return any_with(rng, session, ahead, 0);
+        }
+        let (start, end) = bad_range(rng, LAST);
+        return sent(rng, comp_id, ahead, 1, Sent::ResendRequest { start, end });
+    }
+    match rng.below(20) {
+        0..=8 => any_with(rng, session, ahead, 1),
+        9..=11 => any_with(rng, session, ahead, 0),
+        12 | 13 => {
+            let copy = any_with(rng, session, e, 1);
+            spoil_sum(rng, copy)
+        }
+        14..=16 => any_with(rng, session, e, either),
+        17 => {
+            let behind = below(rng, e);
+            any_with(rng, session, behind, 1)
+        }
+        18 => sent(rng, comp_id, ahead, either, Sent::Reset { new: e }),
+        _ => {
+            let new = above(rng, e);
+            sent(rng, comp_id, ahead, either, Sent::Reset { new })
+        }
+    }
+}
+
+/// The most numbers that one answer covers.
+const LONGEST_ANSWER: u32 = 8;
+
+/// The answer to our Resend Request as a bad line brings it: copies from E on, up
+/// to what made us ask or a little further. Some are lost and some spoiled.
+fn answer_with_holes(rng: &mut Rng, session: &Session) -> Vec<Vec<u8>> {
+    let further = session.m.saturating_add(rng.below(3) as u32);
+    let last = further.min(session.e.saturating_add(LONGEST_ANSWER - 1));
+    let mut all = Vec::new();
+    for number in session.e..=last {
+        let copy = any_with(rng, session, number, 1);
+        match rng.below(4) {
+            0 => {}
+            1 => all.push(spoil_sum(rng, copy)),
+            _ => all.push(copy),
+        }
+    }
+    all
+}
+
+/// What a bad line brings next: a message, or while M stands a whole answer, of
+/// which nothing may be left.
+fn bad_line(rng: &mut Rng, session: &Session) -> Vec<Vec<u8>> {
+    if session.m != 0 && rng.chance(25) {
+        answer_with_holes(rng, session)
+    } else {
+        vec![on_bad_line(rng, session)]
+    }
+}
+
+/// Where a day with holes begins. Our numbers are often so few that a Logon and
+/// the requests of one hole use them up, or one less or more.
+pub fn hole_start(rng: &mut Rng) -> Start {
+    let o = if rng.chance(70) {
+        LAST - 2 - rng.below(4) as u32
+    } else {
+        saved_number(rng)
+    };
+    Start { o, ..start(rng) }
+}
+
+/// A history over a bad line, with drops and redials at any time.
+pub fn hole_events(rng: &mut Rng, start: &Start, count: usize) -> Vec<Event> {
+    day(rng, start, count, 2, bad_line)
+}
+
+/// What a bad line brings in one read.
+pub fn hole_slice(rng: &mut Rng, session: &Session, count: usize) -> Vec<u8> {
+    back_to_back(rng, session, count, bad_line)
 }
 
 /// A list for the resend plan, now and then a bad one.
@@ -896,6 +1116,36 @@ pub fn list(rng: &mut Rng, most: usize) -> Vec<u8> {
         list[at] = rng.byte();
     }
     list
+}
+
+/// Lines for daysheet, good ones, of a day over a bad line: many lie ahead with
+/// PossDup 1, so that the same number is asked for again and again.
+pub fn hole_sheet(rng: &mut Rng, count: usize) -> Vec<u8> {
+    let mut text = b"kind=logon n=1 dup=0 new=0\n".to_vec();
+    let mut e = 2;
+    for _ in 0..count {
+        let (n, dup) = match rng.below(20) {
+            0..=7 => (above(rng, e), 1),
+            8..=10 => (above(rng, e), 0),
+            11 => (below(rng, e), 1),
+            _ => (e, rng.below(2)),
+        };
+        let (kind, new) = match rng.below(10) {
+            0 | 1 => ("gapfill", above(rng, n)),
+            2 => ("reset", e + rng.below(2) as u32),
+            _ => ("business", 0),
+        };
+        let line = format!("kind={} n={} dup={} new={}\n", kind, n, dup, new);
+        text.extend(line.into_bytes());
+        // Where the next E is, as long as nothing has stopped the session.
+        e = match kind {
+            "reset" => new,
+            "gapfill" if n == e => new,
+            "business" if n == e => e + 1,
+            _ => e,
+        };
+    }
+    text
 }
 
 /// Lines for daysheet, now and then a bad one.

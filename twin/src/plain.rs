@@ -774,9 +774,13 @@ pub struct Session {
     pub e: u32,
     pub o: u32,
     pub m: u32,
+    pub repeats: u32,
 }
 
 const LAST: u32 = u32::MAX;
+
+/// How often the same E is asked for again.
+const MOST_REPEATS: u32 = 2;
 
 /// The last place of a message that a list's number can tell.
 const MOST_PLACE: usize = u32::MAX as usize;
@@ -793,6 +797,7 @@ impl Session {
             e,
             o,
             m: 0,
+            repeats: 0,
         })
     }
 
@@ -802,9 +807,13 @@ impl Session {
 
     /// The state of a session that some day has.
     pub fn of(session: &session::Session) -> Session {
-        let session::Session { phase, e, o, m, .. } = *session;
-        let down = Session::saved(&session.comp_id, e, o).expect("a session of some day");
-        Session { phase, m, ..down }
+        let down = Session::saved(&session.comp_id, session.e, session.o);
+        Session {
+            phase: session.phase,
+            m: session.m,
+            repeats: session.repeats,
+            ..down.expect("a session of some day")
+        }
     }
 
     pub fn connect(&mut self, password: &[u8]) -> Result<Logon, Refusal> {
@@ -818,6 +827,7 @@ impl Session {
             return refused(9, 0);
         }
         self.phase = Phase::Waiting;
+        self.repeats = 0;
         self.o += 1;
         Ok(Logon {
             number: self.o - 1,
@@ -830,6 +840,7 @@ impl Session {
     pub fn drop(&mut self) {
         self.phase = Phase::Down;
         self.m = 0;
+        self.repeats = 0;
     }
 
     /// One step: the answers of `session::Session::step`.
@@ -1022,7 +1033,12 @@ impl Session {
         }
         if n > self.e {
             let mut sends = [resend, Send::None];
-            if self.m == 0 {
+            // Asked already: again only behind a hole in the answer.
+            let again = self.m != 0;
+            if again && poss_dup == 1 && self.repeats == MOST_REPEATS {
+                return self.stop(37, 0);
+            }
+            if !again || poss_dup == 1 {
                 if self.o == LAST {
                     self.drop();
                     return answer(22, 0, NO_ROW);
@@ -1033,7 +1049,11 @@ impl Session {
                     end: 0,
                 };
                 self.o += 1;
-                self.m = n;
+                if again {
+                    self.repeats += 1;
+                } else {
+                    self.m = n;
+                }
             }
             return Answer { sends, ..NOTHING };
         }
@@ -1113,6 +1133,7 @@ impl Session {
     fn jump(&mut self, sort: RowSort, new: u32) -> Row {
         let first = self.e;
         self.e = new;
+        self.repeats = 0;
         if new > self.m {
             self.m = 0;
         }

@@ -91,6 +91,7 @@ pub struct Session {
     pub expected: u32,
     pub own: u32,
     pub ahead: u32,
+    pub repeats: u32,
 }
 
 #[repr(C)]
@@ -183,13 +184,13 @@ const _: () = assert!(
         && size_of::<Listed>() == 40
         && size_of::<Header>() == 8
         && size_of::<Written>() == 24
-        && size_of::<Session>() == 28
-        && size_of::<Made>() == 32
-        && size_of::<Connected>() == 48
+        && size_of::<Session>() == 32
+        && size_of::<Made>() == 36
+        && size_of::<Connected>() == 56
         && size_of::<Send>() == 16
         && size_of::<Row>() == 12
         && size_of::<Stepped>() == 96
-        && size_of::<Done>() == 72
+        && size_of::<Done>() == 80
         && size_of::<Planned>() == 16
 );
 

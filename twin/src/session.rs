@@ -24,8 +24,17 @@ pub const BAD_NEW: u32 = 33;
 pub const BAD_RESEND: u32 = 34;
 pub const BAD_NEXT_EXPECTED: u32 = 35;
 pub const LAST_TAKEN: u32 = 36;
+pub const REPEATS_SPENT: u32 = 37;
 /// The C interface's own: a message to send that no session gives.
 pub const NOT_A_SEND: u32 = 91;
+
+/// How often we ask again from the same E while M stands (document 02, item 3).
+/// The next message that would make us ask once more stops the session.
+pub const MOST_REPEATS: u32 = 2;
+
+/// The least O of a session that has asked for what is missing: its Logon and its
+/// request took 1 and 2.
+pub const ASKED_ONCE: u32 = 3;
 
 #[derive(Clone, Copy, Debug, PartialEq, Eq)]
 pub enum Phase {
@@ -274,6 +283,8 @@ pub struct Session {
     pub o: u32,
     /// M, the number ahead that made us ask; 0 for none.
     pub m: u32,
+    /// How often we have asked again from this E while M stands.
+    pub repeats: u32,
 }
 
 /// The number at a position of a message that the reader took; None where the
@@ -291,7 +302,8 @@ fn required(bytes: &[u8], position: u32) -> u32 {
 }
 
 impl Session {
-    /// A fresh day: Down, E = O = 1, M = 0. A bad Comp ID is 6.
+    /// A fresh day: Down, E = O = 1, M = 0, nothing asked again. A bad Comp ID is
+    /// 6.
     pub fn fresh(comp_id: &[u8]) -> Result<Session, Refusal> {
         Session::saved(comp_id, 1, 1)
     }
@@ -310,6 +322,7 @@ impl Session {
             e,
             o,
             m: 0,
+            repeats: 0,
         })
     }
 
@@ -325,6 +338,7 @@ impl Session {
         writer::check_text(password, tables::PASSWORD.width, Allowed::Ascii)?;
         let number = self.take_number();
         self.phase = Phase::Waiting;
+        self.repeats = 0;
         Ok(Logon {
             number,
             password: password.to_vec(),
@@ -356,7 +370,7 @@ impl Session {
     #[allow(clippy::should_implement_trait)] // the paper's word
     pub fn drop(&mut self) {
         self.phase = Phase::Down;
-        self.m = 0;
+        self.forget_ahead();
     }
 
     /// One step over lent bytes.
@@ -612,7 +626,10 @@ impl Session {
     }
 
     /// Rule 7, a number ahead: a Resend Request is answered all the same, then we
-    /// ask for what is missing, once.
+    /// ask for what is missing. While M stands we ask again where PossDup says that
+    /// the answer goes on behind a hole (document 02, item 3). 34 comes before 37,
+    /// and 37 before 22. A Stop sends its Logout alone, and 22 nothing: the gap
+    /// fill is not sent then.
     fn ahead(&mut self, head: &Head, bytes: &[u8]) -> Answer {
         let mut sends = [Send::None; 2];
         let mut used = 0;
@@ -623,7 +640,12 @@ impl Session {
             }
             used += 1;
         }
-        if self.m == 0 {
+        let is_first = self.m == 0;
+        let is_repeat = !is_first && head.poss_dup == 1;
+        if is_repeat && self.repeats == MOST_REPEATS {
+            return self.stop(REPEATS_SPENT);
+        }
+        if is_first || is_repeat {
             if self.o == LAST {
                 return self.exhausted();
             }
@@ -632,7 +654,12 @@ impl Session {
                 start: self.e,
                 end: 0,
             };
+        }
+        if is_first {
             self.m = head.number;
+        }
+        if is_repeat {
+            self.repeats += 1;
         }
         Answer { sends, ..NOTHING }
     }
@@ -683,12 +710,20 @@ impl Session {
         }
     }
 
-    /// M becomes 0 whenever E exceeds it.
+    /// Another E: M becomes 0 whenever E exceeds it. What was asked again was asked
+    /// from the old E, so the count is 0 even where M stays.
     fn move_to(&mut self, e: u32) {
         self.e = e;
+        self.repeats = 0;
         if self.e > self.m {
-            self.m = 0;
+            self.forget_ahead();
         }
+    }
+
+    /// Nothing ahead makes us ask any more: M is 0, and then nothing is repeated.
+    fn forget_ahead(&mut self) {
+        self.m = 0;
+        self.repeats = 0;
     }
 
     /// Stop(k): a Logout if there is a number for it, Down, no row.

@@ -1,11 +1,11 @@
 use crate::daysheet::daysheet;
-use crate::make::{self, Event, Given, Rng, Text};
+use crate::make::{self, Event, Given, Rng, Sent, Text};
 use crate::plan::plan;
 use crate::reader::{self, Value, A_FIELD};
 use crate::reports::{self, LIST};
 use crate::session::{
-    self, Answer, Done, Ended, Phase, Row, RowSort, Send, Session, A_ROW, A_SEND, LAST, LAST_KIND,
-    NOTHING, NOT_A_SEND, NO_ROW,
+    self, Answer, Done, Ended, Phase, Row, RowSort, Send, Session, ASKED_ONCE, A_ROW, A_SEND, LAST,
+    LAST_KIND, MOST_REPEATS, NOTHING, NOT_A_SEND, NO_ROW,
 };
 use crate::tables::{self, types, Sort};
 use crate::wire::{self, is_set, refuse, set, Allowed, Refusal, LEAST, MAP_WIDTH, MOST};
@@ -260,6 +260,69 @@ row=reset first=2 last=6 next=7 out=none
 row=none first=0 last=0 next=7 out=none
 row=none first=0 last=0 next=7 out=logout
 row=none first=0 last=0 next=7 out=none
+"
+    );
+}
+
+/// Document 02, item 3: more resends, and in the end a logout.
+#[test]
+fn daysheet_with_holes() {
+    // 4 opens the hole at 2. Ahead of E and with dup=1 the same is asked again, by
+    // business and gap fills alike; with dup=0 it is not. 2 fills the hole, so two
+    // repeats are left for 3; a reset to 3 and a lower number leave the count.
+    let text = b"kind=logon n=1 dup=0 new=0
+kind=business n=4 dup=0 new=0
+kind=business n=3 dup=1 new=0
+kind=business n=5 dup=0 new=0
+kind=gapfill n=4 dup=1 new=9
+kind=business n=2 dup=1 new=0
+kind=business n=4 dup=1 new=0
+kind=reset n=9 dup=0 new=3
+kind=business n=2 dup=1 new=0
+kind=business n=5 dup=1 new=0
+kind=business n=4 dup=1 new=0
+kind=business n=3 dup=1 new=0
+";
+    assert_eq!(
+        String::from_utf8(daysheet(text)).unwrap(),
+        "sheet=1
+row=session first=1 last=1 next=2 out=none
+row=none first=0 last=0 next=2 out=resend
+row=none first=0 last=0 next=2 out=resend
+row=none first=0 last=0 next=2 out=none
+row=none first=0 last=0 next=2 out=resend
+row=business first=2 last=2 next=3 out=none
+row=none first=0 last=0 next=3 out=resend
+row=none first=0 last=0 next=3 out=none
+row=none first=0 last=0 next=3 out=none
+row=none first=0 last=0 next=3 out=resend
+row=none first=0 last=0 next=3 out=logout
+row=none first=0 last=0 next=3 out=none
+"
+    );
+    // Everything asked for arrives: with M passed, the next hole is asked for anew.
+    let text = b"kind=logon n=1 dup=0 new=0
+kind=business n=3 dup=1 new=0
+kind=business n=3 dup=1 new=0
+kind=gapfill n=2 dup=1 new=4
+kind=business n=5 dup=1 new=0
+kind=business n=6 dup=0 new=0
+kind=business n=6 dup=1 new=0
+kind=business n=6 dup=1 new=0
+kind=business n=6 dup=1 new=0
+";
+    assert_eq!(
+        String::from_utf8(daysheet(text)).unwrap(),
+        "sheet=1
+row=session first=1 last=1 next=2 out=none
+row=none first=0 last=0 next=2 out=resend
+row=none first=0 last=0 next=2 out=resend
+row=filled first=2 last=3 next=4 out=none
+row=none first=0 last=0 next=4 out=resend
+row=none first=0 last=0 next=4 out=none
+row=none first=0 last=0 next=4 out=resend
+row=none first=0 last=0 next=4 out=resend
+row=none first=0 last=0 next=4 out=logout
 "
     );
 }
@@ -1202,6 +1265,7 @@ fn stops(mut session: Session, bytes: &[u8], code: u32) {
         assert_eq!(answer, only(code));
         assert_eq!(state(&session), (Phase::Down, before.e, before.o, 0));
     }
+    assert_eq!(session.repeats, 0);
     assert_eq!(session.step(bytes), only(20));
 }
 
@@ -1754,26 +1818,12 @@ fn session_live_logout() {
 fn session_live_behind_and_ahead() {
     // 6.
     stops(live(3, 4), &business(2), 30);
-    let mut dup = business(2);
-    dup[8] = 1;
-    make::reseal(&mut dup);
     let mut session = live(3, 4);
-    assert_eq!(session.step(&dup), NOTHING);
+    assert_eq!(session.step(&again(business(2))), NOTHING);
     assert_eq!(state(&session), (Phase::Live, 3, 4, 0));
 
-    // 7: asked once, then again after M is passed.
-    let ask = |number, start| Answer {
-        sends: [
-            Send::ResendRequest {
-                number,
-                start,
-                end: 0,
-            },
-            Send::None,
-        ],
-        ..NOTHING
-    };
-    assert_eq!(session.step(&business(5)), ask(4, 3));
+    // 7: with PossDup 0, asked once, then anew after M is passed.
+    assert_eq!(session.step(&business(5)), asks(4, 3));
     assert_eq!(state(&session), (Phase::Live, 3, 5, 5));
     assert_eq!(session.step(&business(6)), NOTHING);
     assert_eq!(session.step(&gap_fill(9, 2)), NOTHING);
@@ -1782,14 +1832,14 @@ fn session_live_behind_and_ahead() {
     assert_eq!(session.step(&business(7)), NOTHING);
     assert_eq!(session.step(&business(5)).row.first, 5);
     assert_eq!(state(&session), (Phase::Live, 6, 5, 0));
-    assert_eq!(session.step(&test_request(8)), ask(5, 6));
+    assert_eq!(session.step(&test_request(8)), asks(5, 6));
     assert_eq!(session.m, 8);
 
     // A Resend Request ahead is answered first.
     let mut session = live(3, 9);
     let answer = session.step(&resend(5, 2, 4));
     assert_eq!(answer.sends[0], Send::GapFill { first: 2, new: 5 });
-    assert_eq!(answer.sends[1], ask(9, 3).sends[0]);
+    assert_eq!(answer.sends[1], request(9, 3));
     assert_eq!(state(&session), (Phase::Live, 3, 10, 5));
     let answer = session.step(&resend(6, 2, 0));
     assert_eq!(answer.sends[0], Send::GapFill { first: 2, new: 10 });
@@ -1815,6 +1865,500 @@ fn session_live_behind_and_ahead() {
         ]
     );
     assert_eq!(state(&session), (Phase::Live, 3, LAST, 7));
+}
+
+// ---- A hole in the answer (document 02, item 3) ----
+
+/// A Live session that has asked for what is missing, and again so often.
+fn with_hole(e: u32, o: u32, m: u32, repeats: u32) -> Session {
+    Session {
+        m,
+        repeats,
+        ..live(e, o)
+    }
+}
+
+/// E, O, M and the count of a session that is Live.
+fn numbers(session: &Session) -> (u32, u32, u32, u32) {
+    assert_eq!(session.phase, Phase::Live);
+    (session.e, session.o, session.m, session.repeats)
+}
+
+/// The message with PossDup 1: sent again.
+fn again(mut bytes: Vec<u8>) -> Vec<u8> {
+    bytes[8] = 1;
+    make::reseal(&mut bytes);
+    bytes
+}
+
+/// A Resend Request of ours from E to 0, which means all.
+fn request(number: u32, start: u32) -> Send {
+    Send::ResendRequest {
+        number,
+        start,
+        end: 0,
+    }
+}
+
+/// What a step gives that asks and does nothing else.
+fn asks(number: u32, start: u32) -> Answer {
+    Answer {
+        sends: [request(number, start), Send::None],
+        ..NOTHING
+    }
+}
+
+/// The plain side must do the same in every test of this part.
+fn stepped(session: &mut Session, bytes: &[u8]) -> Answer {
+    let mut fast = plain::Session::of(session);
+    let answer = session.step(bytes);
+    assert_eq!(fast.step(bytes), answer);
+    assert_eq!(
+        (fast.phase, fast.e, fast.o, fast.m, fast.repeats),
+        (
+            session.phase,
+            session.e,
+            session.o,
+            session.m,
+            session.repeats
+        )
+    );
+    answer
+}
+
+/// The customer's day: the first message of the resend is spoiled. The copies
+/// behind it ask again, M staying; two are asked, and the third stops the session.
+#[test]
+fn hole_spoiled_first_copy() {
+    let mut session = live(3, 4);
+    assert_eq!(stepped(&mut session, &business(7)), asks(4, 3));
+    assert_eq!(numbers(&session), (3, 5, 7, 0));
+    let spoiled = bad_sum(again(business(3)));
+    let dropped = stepped(&mut session, &spoiled);
+    assert_eq!((dropped.code, dropped.sends), (4, [Send::None; 2]));
+    assert_eq!(numbers(&session), (3, 5, 7, 0));
+    assert_eq!(stepped(&mut session, &again(business(4))), asks(5, 3));
+    assert_eq!(numbers(&session), (3, 6, 7, 1));
+    assert_eq!(stepped(&mut session, &again(business(5))), asks(6, 3));
+    assert_eq!(numbers(&session), (3, 7, 7, 2));
+    // A spoiled copy does not touch the count either.
+    assert_eq!(stepped(&mut session, &spoiled).code, 4);
+    assert_eq!(numbers(&session), (3, 7, 7, 2));
+    assert_eq!(stepped(&mut session, &again(business(6))), stopped(37, 7));
+    assert_eq!(state(&session), (Phase::Down, 3, 8, 0));
+    assert_eq!(session.repeats, 0);
+
+    // The same day, but the second answer is whole: it is taken, and nothing more
+    // is asked.
+    let mut session = with_hole(3, 5, 5, 0);
+    assert_eq!(stepped(&mut session, &again(business(4))), asks(5, 3));
+    for n in 3..=5 {
+        let answer = stepped(&mut session, &again(business(n)));
+        assert_eq!(answer.row, row(RowSort::Business, n, n));
+        assert_eq!(answer.sends, [Send::None; 2]);
+    }
+    assert_eq!(numbers(&session), (6, 6, 0, 0));
+}
+
+/// The first request is asked by rule 7 as it was, whatever PossDup is, and counts
+/// for no repeat.
+#[test]
+fn hole_first_request_is_no_repeat() {
+    for bytes in [business(7), again(business(7))] {
+        let mut session = live(3, 4);
+        assert_eq!(stepped(&mut session, &bytes), asks(4, 3));
+        assert_eq!(numbers(&session), (3, 5, 7, 0));
+    }
+}
+
+/// Every type that rule 7 meets asks again, below M, at it and above it. None is
+/// taken: a Test Request is not answered, and a gap fill's New is not looked at.
+#[test]
+fn hole_every_type_asks_again() {
+    for n in [4, 6, 7, 8, 1_000, LAST] {
+        for bytes in [
+            framed(0, n, &[], &[]),
+            test_request(n),
+            framed(3, n, &[0, 4], &[0; 6]),
+            gap_fill(n, 0),
+            gap_fill(n, LAST),
+            business(n),
+            framed(10, n, &required_body().0, &required_body().1),
+        ] {
+            let bytes = again(bytes);
+            let mut session = with_hole(3, 9, 7, 0);
+            assert_eq!(stepped(&mut session, &bytes), asks(9, 3));
+            assert_eq!(numbers(&session), (3, 10, 7, 1));
+            assert_eq!(stepped(&mut session, &bytes), asks(10, 3));
+            assert_eq!(numbers(&session), (3, 11, 7, 2));
+            stops(session, &bytes, 37);
+        }
+    }
+}
+
+/// PossDup 0 asks nothing while M stands, and leaves the count, with our numbers
+/// used up as well.
+#[test]
+fn hole_not_sent_again() {
+    for repeats in 0..=MOST_REPEATS {
+        for o in [9, LAST] {
+            for n in [4, 7, 8, LAST] {
+                for bytes in [business(n), test_request(n), gap_fill(n, 0)] {
+                    let mut session = with_hole(3, o, 7, repeats);
+                    assert_eq!(stepped(&mut session, &bytes), NOTHING);
+                    assert_eq!(numbers(&session), (3, o, 7, repeats));
+                }
+                // The gateway's own request is answered all the same.
+                let mut session = with_hole(3, o, 7, repeats);
+                let answer = stepped(&mut session, &resend(n, 2, 4));
+                let fill = Send::GapFill { first: 2, new: 5 };
+                assert_eq!(answer.sends, [fill, Send::None]);
+                assert_eq!(numbers(&session), (3, o, 7, repeats));
+                stops(with_hole(3, o, 7, repeats), &resend(n, 0, 0), 34);
+            }
+        }
+    }
+    // PossResend is another flag.
+    let mut bytes = business(5);
+    bytes[9] = 1;
+    make::reseal(&mut bytes);
+    let mut session = with_hole(3, 9, 7, 0);
+    assert_eq!(stepped(&mut session, &bytes), NOTHING);
+}
+
+/// A Resend Request from the gateway ahead of E: its gap fill, then the repeat. The
+/// gap fill goes to the O that was, since the repeat takes its number afterwards.
+#[test]
+fn hole_gap_fill_and_repeat() {
+    for (end, new) in [(0, 9), (4, 5), (8, 9), (LAST, 9)] {
+        let mut session = with_hole(3, 9, 7, 0);
+        let answer = stepped(&mut session, &again(resend(5, 2, end)));
+        let fill = Send::GapFill { first: 2, new };
+        assert_eq!(
+            answer,
+            Answer {
+                sends: [fill, request(9, 3)],
+                ..NOTHING
+            }
+        );
+        assert_eq!(numbers(&session), (3, 10, 7, 1));
+    }
+    let mut session = with_hole(3, 10, 7, 1);
+    let answer = stepped(&mut session, &again(resend(9, 9, 0)));
+    let fill = Send::GapFill { first: 9, new: 10 };
+    assert_eq!(answer.sends, [fill, request(10, 3)]);
+    assert_eq!(numbers(&session), (3, 11, 7, 2));
+}
+
+/// 34, then 37, then 22. On 37 the gap fill is not sent, and on 22 nothing is.
+#[test]
+fn hole_order_of_refusals() {
+    let good = again(resend(5, 2, 0));
+    let bad = [
+        again(resend(5, 0, 0)),
+        again(resend(5, LAST, 0)),
+        again(resend(5, 3, 2)),
+    ];
+    for o in [9, LAST - 1, LAST] {
+        for repeats in 0..=MOST_REPEATS {
+            for bytes in &bad {
+                stops(with_hole(3, o, 7, repeats), bytes, 34);
+            }
+        }
+        // Stop's Logout alone; with our last number used, not even that.
+        for bytes in [&good, &again(business(5))] {
+            stops(with_hole(3, o, 7, 2), bytes, 37);
+        }
+    }
+    for repeats in [0, 1] {
+        for bytes in [&good, &again(business(5)), &again(test_request(5))] {
+            let mut session = with_hole(3, LAST, 7, repeats);
+            assert_eq!(stepped(&mut session, bytes), only(22));
+            assert_eq!(state(&session), (Phase::Down, 3, LAST, 0));
+            assert_eq!(session.repeats, 0);
+        }
+    }
+    // The last number that we send under.
+    let mut session = with_hole(3, LAST - 1, 7, 1);
+    assert_eq!(
+        stepped(&mut session, &again(business(5))),
+        asks(LAST - 1, 3)
+    );
+    assert_eq!(numbers(&session), (3, LAST, 7, 2));
+    assert_eq!(stepped(&mut session, &again(business(5))), only(37));
+    assert_eq!(state(&session), (Phase::Down, 3, LAST, 0));
+    // A count of 2 is not looked at by a message that rule 7 does not meet.
+    stops(with_hole(3, 9, 7, 2), &again(logon(5, 9)), 32);
+    stops(with_hole(3, 9, 7, 2), &again(reset(5, 2)), 33);
+    stops(with_hole(3, 9, 7, 2), &business(2), 30);
+    stops(with_hole(3, 9, 7, 2), &again(framed(6, 5, &[], &[])), 0);
+}
+
+/// The count is cleared by every row, whether M stays or goes, and the two repeats
+/// start afresh.
+#[test]
+fn hole_count_cleared_when_e_moves() {
+    for (bytes, e) in [
+        (business(3), 4),
+        (framed(0, 3, &[], &[]), 4),
+        (framed(3, 3, &[0, 4], &[0; 6]), 4),
+        (resend(3, 1, 0), 4),
+        (gap_fill(3, 6), 6),
+        (gap_fill(3, 7), 7),
+        (reset(1, 5), 5),
+        (reset(LAST, 7), 7),
+    ] {
+        for bytes in [again(bytes.clone()), bytes] {
+            let mut session = with_hole(3, 9, 7, 2);
+            assert_eq!(stepped(&mut session, &bytes).code, 0);
+            assert_eq!(numbers(&session), (e, 9, 7, 0));
+            assert_eq!(stepped(&mut session, &again(business(9))), asks(9, e));
+            assert_eq!(stepped(&mut session, &again(business(8))), asks(10, e));
+            assert_eq!(numbers(&session), (e, 11, 7, 2));
+            stops(session, &again(business(9)), 37);
+        }
+    }
+    // A Test Request at E takes a number for its Heartbeat.
+    let mut session = with_hole(3, 9, 7, 1);
+    stepped(&mut session, &test_request(3));
+    assert_eq!(numbers(&session), (4, 10, 7, 0));
+
+    // M goes as well: the next message ahead asks by rule 7 as it was.
+    for bytes in [
+        gap_fill(3, 8),
+        gap_fill(3, LAST),
+        reset(3, 8),
+        reset(3, LAST),
+    ] {
+        let mut session = with_hole(3, 9, 7, 2);
+        stepped(&mut session, &bytes);
+        assert_eq!((session.m, session.repeats), (0, 0));
+    }
+    let mut session = with_hole(7, 9, 7, 2);
+    stepped(&mut session, &business(7));
+    assert_eq!(numbers(&session), (8, 9, 0, 0));
+    assert_eq!(stepped(&mut session, &business(10)), asks(9, 8));
+    assert_eq!(numbers(&session), (8, 10, 10, 0));
+    assert_eq!(stepped(&mut session, &again(business(10))), asks(10, 8));
+    assert_eq!(numbers(&session), (8, 11, 10, 1));
+}
+
+/// What leaves E leaves the count: a reset to E, a lower number with PossDup 1, and
+/// what the reader refuses with 1 or 4.
+#[test]
+fn hole_count_kept() {
+    for repeats in 0..=MOST_REPEATS {
+        for bytes in [
+            reset(1, 3),
+            reset(5, 3),
+            again(reset(5, 3)),
+            again(framed(4, 5, &[0, 1], &[b'N', 3, 0, 0, 0])),
+            again(business(2)),
+            again(test_request(1)),
+            again(gap_fill(2, 9)),
+        ] {
+            let mut session = with_hole(3, 9, 7, repeats);
+            assert_eq!(stepped(&mut session, &bytes), NOTHING);
+            assert_eq!(numbers(&session), (3, 9, 7, repeats));
+        }
+        let whole = again(business(5));
+        for bytes in [bad_sum(whole.clone()), whole[..40].to_vec(), Vec::new()] {
+            let mut session = with_hole(3, 9, 7, repeats);
+            let answer = stepped(&mut session, &bytes);
+            assert!(answer.code == 4 || answer.code == 1);
+            assert_eq!(numbers(&session), (3, 9, 7, repeats));
+        }
+    }
+}
+
+/// 0 on a fresh and on a saved day, after a drop, a Logout and a Stop, and after
+/// Connect; a refused Connect leaves it.
+#[test]
+fn hole_count_of_a_day() {
+    assert_eq!(Session::fresh(US).unwrap().repeats, 0);
+    assert_eq!(Session::saved(US, 3, 9).unwrap().repeats, 0);
+    for repeats in 0..=MOST_REPEATS {
+        let mut session = with_hole(3, 9, 7, repeats);
+        for password in [&b"pw"[..], b"\x7f"] {
+            let mut fast = plain::Session::of(&session);
+            assert_eq!(session.connect(password), Err(refuse(21, 0)));
+            assert_eq!(session, with_hole(3, 9, 7, repeats));
+            assert_eq!(fast.connect(password), Err(refuse(21, 0)));
+            assert_eq!((fast.m, fast.repeats), (7, repeats));
+        }
+        session.drop();
+        assert_eq!(session, Session::saved(US, 3, 9).unwrap());
+        session.connect(b"pw").unwrap();
+        assert_eq!((session.m, session.repeats), (0, 0));
+
+        // Redialled: the gateway's Logon ahead of E asks nothing, the next message
+        // asks by rule 7 as it was, and the two repeats start afresh.
+        assert_eq!(stepped(&mut session, &logon(8, 10)), NOTHING);
+        assert_eq!(stepped(&mut session, &business(9)), asks(10, 3));
+        assert_eq!(stepped(&mut session, &again(business(4))), asks(11, 3));
+        assert_eq!(stepped(&mut session, &again(business(5))), asks(12, 3));
+        assert_eq!(numbers(&session), (3, 13, 9, 2));
+        assert_eq!(stepped(&mut session, &again(business(6))), stopped(37, 13));
+        assert_eq!(session, Session::saved(US, 3, 14).unwrap());
+
+        let mut session = with_hole(3, 9, 7, repeats);
+        stepped(&mut session, &framed(6, 3, &[], &[]));
+        assert_eq!(session, Session::saved(US, 4, 10).unwrap());
+        let mut session = with_hole(3, 9, 7, repeats);
+        stepped(&mut session, &business(2));
+        assert_eq!(session, Session::saved(US, 3, 10).unwrap());
+    }
+}
+
+/// The ends of the gateway's numbers: E below the last one may be asked for again,
+/// and nothing lies ahead of the last one.
+#[test]
+fn hole_at_the_last_numbers() {
+    let mut session = with_hole(LAST - 1, 9, LAST, 1);
+    let last = again(business(LAST));
+    assert_eq!(stepped(&mut session, &last), asks(9, LAST - 1));
+    stops(session, &last, 37);
+    stops(with_hole(LAST, 9, LAST, 0), &last, 36);
+    let mut session = with_hole(LAST - 1, 9, LAST, 2);
+    stepped(&mut session, &business(LAST - 1));
+    assert_eq!(numbers(&session), (LAST, 9, LAST, 0));
+    stops(session, &last, 36);
+}
+
+/// However long copies ahead of E come: while E does not move, the session is Down
+/// at the third.
+#[test]
+fn hole_ends_in_finitely_many() {
+    let mut rng = Rng::new(12);
+    for _ in 0..2_000 {
+        let o = LAST - rng.below(8) as u32;
+        let mut session = with_hole(3, o, 7, rng.below(3) as u32);
+        let left = MOST_REPEATS - session.repeats;
+        let mut asked = 0;
+        while session.phase == Phase::Live {
+            let n = 4 + rng.below(9) as u32;
+            let free = [
+                types::HEARTBEAT,
+                types::REJECT,
+                types::BUSINESS_MESSAGE_REJECT,
+            ];
+            let what = Sent::Of(free[rng.index(free.len())]);
+            let bytes = make::sent(&mut rng, US, n, 1, what);
+            let answer = stepped(&mut session, &bytes);
+            assert_eq!(session.e, 3);
+            if session.phase == Phase::Live {
+                assert_eq!(answer.sends[0], request(session.o - 1, 3));
+                asked += 1;
+            } else {
+                let spent = LAST - o < left;
+                assert_eq!(answer.code, if spent { 22 } else { 37 });
+            }
+        }
+        assert_eq!(asked, left.min(LAST - o));
+    }
+}
+
+/// In one call with many messages, into lists with room for all and with less.
+#[test]
+fn hole_many() {
+    let messages = [
+        business(5),
+        bad_sum(again(business(3))),
+        again(resend(6, 2, 0)),
+        again(business(3)),
+        again(business(5)),
+        again(resend(6, 2, 4)),
+        again(business(7)),
+        business(4),
+    ];
+    let sends = [
+        [4, 9, 3, 0],
+        [3, 2, 10, 0],
+        [4, 10, 3, 0],
+        [4, 11, 4, 0],
+        [3, 2, 5, 0],
+        [4, 12, 4, 0],
+        [2, 13, 0, 0],
+    ];
+    let length = |count: usize| messages[..count].concat().len();
+    let bytes = messages.concat();
+    let row = [1, 3, 3, length(3) as u32, messages[3].len() as u32];
+    let mut session = live(3, 9);
+    let whole = many(&mut session, &bytes, ROOMY, ROOMY);
+    assert_eq!(end(&whole.done), (length(7), Ended::Down, 37, 0));
+    laid(&whole, &[row], &sends);
+    assert_eq!(state(&session), (Phase::Down, 4, 14, 0));
+
+    // A step whose messages to send find no slot is not done, and the count is as
+    // it was before it: slots, messages done, sends laid, O, M, count.
+    for (slots, done, laid_sends, o, m, repeats) in [
+        (2, 2, 1, 10, 5, 0),
+        (3, 4, 3, 11, 5, 0),
+        (4, 5, 4, 12, 5, 1),
+        (5, 5, 4, 12, 5, 1),
+        (6, 6, 6, 13, 5, 2),
+    ] {
+        let mut session = live(3, 9);
+        let full = many(&mut session, &bytes, ROOMY, slots * A_SEND);
+        assert_eq!(end(&full.done), (length(done), Ended::NoSlot, 0, 0));
+        let rows = if done > 3 { &[row][..] } else { &[] };
+        laid(&full, rows, &sends[..laid_sends]);
+        let e = if done > 3 { 4 } else { 3 };
+        assert_eq!(numbers(&session), (e, o, m, repeats));
+        // The call again from there on ends as the whole one did.
+        let rest = many(&mut session, &bytes[length(done)..], ROOMY, ROOMY);
+        assert_eq!((rest.done.ended, rest.done.code), (Ended::Down, 37));
+        assert_eq!(laid_sends + rest.done.sends, sends.len());
+    }
+}
+
+/// Random days over a bad line: the plain side does the same, and what a session
+/// may be is what the C interface lets it be.
+#[test]
+fn hole_days() {
+    let mut rng = Rng::new(13);
+    let mut codes = [0u32; 41];
+    let mut counts = [0u32; MOST_REPEATS as usize + 1];
+    let mut both = 0;
+    for _ in 0..1_500 {
+        let start = make::hole_start(&mut rng);
+        let mut session = Session::saved(&start.comp_id, start.e, start.o).unwrap();
+        for event in make::hole_events(&mut rng, &start, 60) {
+            let before = session.clone();
+            match event {
+                Event::Connect(password) => {
+                    let mut fast = plain::Session::of(&session);
+                    let answer = session.connect(&password);
+                    assert_eq!(fast.connect(&password), answer);
+                    assert_eq!((fast.o, fast.repeats), (session.o, session.repeats));
+                    assert!(answer.is_ok() || session == before);
+                }
+                Event::Drop => session.drop(),
+                Event::Lend(bytes) => {
+                    let answer = stepped(&mut session, &bytes);
+                    codes[answer.code as usize] += 1;
+                    both += u32::from(before.m != 0 && answer.sends[1] != Send::None);
+                    let asked = session.repeats > before.repeats;
+                    if asked {
+                        assert_eq!(session.repeats, before.repeats + 1);
+                        assert_eq!((session.e, session.m), (before.e, before.m));
+                        assert!(answer.sends.contains(&request(before.o, before.e)));
+                    }
+                }
+            }
+            let kept = session.e == before.e && session.m == before.m;
+            assert!(kept || session.repeats == 0);
+            assert!(session.repeats <= MOST_REPEATS);
+            assert!(session.m != 0 || session.repeats == 0);
+            assert!(session.m == 0 || session.o >= ASKED_ONCE + session.repeats);
+            counts[session.repeats as usize] += 1;
+        }
+    }
+    for code in [0, 4, 20, 22, 30, 33, 34, 37] {
+        assert!(codes[code] > 10, "code {} {:?}", code, codes);
+    }
+    assert!(counts.iter().all(|&count| count > 500), "{:?}", counts);
+    assert!(both > 100, "{}", both);
 }
 
 #[test]
@@ -1942,6 +2486,7 @@ fn many(session: &mut Session, bytes: &[u8], row_room: usize, send_room: usize) 
     assert_eq!(told, done, "{:?} {:?}", before, bytes);
     assert_eq!((&other_rows, &other_sends), (&rows, &sends));
     assert_eq!((other.phase, other.e, other.o, other.m), state(session));
+    assert_eq!(other.repeats, session.repeats);
     Many { done, rows, sends }
 }
 
@@ -2643,13 +3188,14 @@ fn plain_steps_as_session() {
                 }
             }
             assert_eq!((fast.phase, fast.e, fast.o, fast.m), state(&slow));
+            assert_eq!(fast.repeats, slow.repeats);
             assert!(slow.phase != Phase::Down || slow.m == 0);
         }
     }
     // The histories reach every code of a step or a connect.
     for code in [0, 1, 2, 3, 4, 5, 6, 7, 8, 9, 10, 20, 21, 22]
         .into_iter()
-        .chain(30..=36)
+        .chain(30..=37)
     {
         assert!(codes[code] > 0, "code {} {:?}", code, codes);
     }
@@ -2672,8 +3218,8 @@ fn plain_takes_the_same_comp_ids() {
     ] {
         for (e, o) in [(0, 1), (1, 0), (1, 1), (LAST, LAST)] {
             assert_eq!(
-                plain::Session::saved(comp_id, e, o).map(|s| (s.e, s.o, s.m)),
-                Session::saved(comp_id, e, o).map(|s| (s.e, s.o, s.m))
+                plain::Session::saved(comp_id, e, o).map(|s| (s.e, s.o, s.m, s.repeats)),
+                Session::saved(comp_id, e, o).map(|s| (s.e, s.o, s.m, s.repeats))
             );
         }
     }

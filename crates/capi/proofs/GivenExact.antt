@@ -13,7 +13,7 @@ use Rattle.session.specs.declared.arrival.Message.{Message}
 use Rattle.session.specs.declared.state.Send.{Send}
 use Rattle.session.specs.declared.state.Send.the-variants.{Nothing, Heartbeat, Logout, GapFill, ResendRequest}
 use Rattle.session.specs.Held.{stateAt, isPlainCompId, leastOwn, isAhead, isHeld}
-use Rattle.session.specs.Rules.{isBadRange, fillEnd, slots, ask, higher, testRequest, resendRequest, equal, numbered, live, forUs, ruledIn, ruled}
+use Rattle.session.specs.Rules.{isBadRange, fillEnd, slots, request, ask, higher, testRequest, resendRequest, equal, numbered, live, forUs, ruledIn, ruled}
 use Rattle.session.specs.State.{last, told, leave, stop, take}
 use Rattle.capi.proofs.GivenLaws.{Given, nothing, heartbeat, logout, gap-fill, resend-request}
 use Rattle.capi.specs.declared.shape.CSend.{CSend}
@@ -29,7 +29,7 @@ says n c = record { number = n; possdup = false; ours = true; content = c }
 module _ (ours : List ℕ) (plain : isPlainCompId ours ≡ true) where
   -- Live, with nothing asked for
   abbrev liveAt : ℕ → ℕ → CSession
-  liveAt e o = record { state = 2; ours = ours; expected = e; own = o; ahead = 0 }
+  liveAt e o = record { state = 2; ours = ours; expected = e; own = o; ahead = 0; repeats = 0 }
 
   live-passes : (e o : ℕ) → 1 ≤ e → 2 ≤ o → isSession (liveAt e o) ≡ true
   unfolding isSession isHeld leastOwn isAhead
@@ -67,7 +67,7 @@ module _ (ours : List ℕ) (plain : isPlainCompId ours ≡ true) where
 
   -- and on one with the number after it
   gives-request : (n start : ℕ) → n < last → ruled (sessionIn (liveAt start n)) (says (start + 1) content.Heartbeat) .answer .first ≡ ResendRequest n start 0
-  unfolding stateAt ruled ruledIn forUs live numbered higher ask slots told
+  unfolding stateAt ruled ruledIn forUs live numbered higher ask request slots told
   gives-request n start l =
       let a : ltb (start + 1) start ≡ false = le-ltb (start + 1) start (omega arith) in
       let b : ltb start (start + 1) ≡ true = lt-ltb start (start + 1) (omega arith) in

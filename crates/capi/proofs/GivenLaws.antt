@@ -50,7 +50,7 @@ use Rattle.session.specs.declared.state.Row.{Row}
 use Rattle.session.specs.declared.state.Row.the-variants as row
 use Rattle.session.specs.declared.state.Stepped.{Stepped}
 use Rattle.session.specs.Arrival.{isYes, sequenceReset, contentOf, messageIn, arrivalOf}
-use Rattle.session.specs.State.{last, mostId, sendNone, told, moved, unmoved, leave, stop, spent, take}
+use Rattle.session.specs.State.{last, mostId, sendNone, mostRepeats, told, counted, unmoved, leave, stop, spent, take}
 use Rattle.session.specs.Rules.{
   isDue,
   turnedAway,
@@ -63,6 +63,8 @@ use Rattle.session.specs.Rules.{
   isBadRange,
   fillEnd,
   slots,
+  request,
+  again,
   ask,
   resendAhead,
   higher,
@@ -218,29 +220,35 @@ module _ (s : Session) (e : 1 ≤ s .expected) (two : 2 ≤ s .own) (within : s 
   lower-gives possdup = either Gives possdup (λ t. unmoved-gives s code.Good) (λ t. stop-gives halt.StopNumber)
 
   -- 7
-  ask-gives : (n : ℕ) (fill : Send) → Given fill → s .expected < n → n ≤ last → Gives (ask s n fill)
-  unfolding ask
-  ask-gives n fill g l m =
-      either Gives (eqb (s .ahead) 0)
-      (λ t. either Gives (eqb (s .own) last) (λ u. spent-gives s)
-      (λ u. slots-give (moved s Live (s .expected) (s .own + 1) n) fill (send.ResendRequest (s .own) (s .expected) 0) g
-      (resend-request two (own-below u) e (omega arith))))
-      (λ t. record { first = g; second = nothing })
+  request-gives : (a r : ℕ) (fill : Send) → Given fill → s .expected < last → Gives (request s a r fill)
+  unfolding request
+  request-gives a r fill g l =
+      either Gives (eqb (s .own) last) (λ t. spent-gives s)
+      (λ t. slots-give (counted s Live (s .expected) (s .own + 1) a r) fill (send.ResendRequest (s .own) (s .expected) 0) g
+      (resend-request two (own-below t) e l))
 
-  higher-gives : (n : ℕ) (c : Content) → s .expected < n → n ≤ last → Gives (higher s n c)
+  ask-gives : (n : ℕ) (possdup : Bool) (fill : Send) → Given fill → s .expected < n → n ≤ last → Gives (ask s n possdup fill)
+  unfolding ask again
+  ask-gives n possdup fill g l m =
+      either Gives (eqb (s .ahead) 0) (λ t. request-gives n 0 fill g (omega arith))
+      (λ t. either Gives possdup
+      (λ u. either Gives (leb mostRepeats (s .repeats)) (λ v. stop-gives halt.StopRepeats) (λ v. request-gives (s .ahead) (s .repeats + 1) fill g (omega arith)))
+      (λ u. record { first = g; second = nothing }))
+
+  higher-gives : (n : ℕ) (possdup : Bool) (c : Content) → s .expected < n → n ≤ last → Gives (higher s n possdup c)
   unfolding higher resendAhead
-  higher-gives n Heartbeat l m = ask-gives n send.Nothing nothing l m
-  higher-gives n (TestRequest id) l m = ask-gives n send.Nothing nothing l m
-  higher-gives n (ResendRequest start end) l m =
+  higher-gives n possdup Heartbeat l m = ask-gives n possdup send.Nothing nothing l m
+  higher-gives n possdup (TestRequest id) l m = ask-gives n possdup send.Nothing nothing l m
+  higher-gives n possdup (ResendRequest start end) l m =
       either Gives (isBadRange (s .own) start end) (λ t. stop-gives halt.StopResend)
-      (λ t. ask-gives n (send.GapFill start (fillEnd (s .own) end)) (range-given (s .own) start end t) l m)
-  higher-gives n Reject l m = ask-gives n send.Nothing nothing l m
-  higher-gives n (Reset new) l m = ask-gives n send.Nothing nothing l m
-  higher-gives n (GapFill new) l m = ask-gives n send.Nothing nothing l m
-  higher-gives n (Logon next) l m = ask-gives n send.Nothing nothing l m
-  higher-gives n Logout l m = ask-gives n send.Nothing nothing l m
-  higher-gives n Lookup l m = ask-gives n send.Nothing nothing l m
-  higher-gives n Business l m = ask-gives n send.Nothing nothing l m
+      (λ t. ask-gives n possdup (send.GapFill start (fillEnd (s .own) end)) (range-given (s .own) start end t) l m)
+  higher-gives n possdup Reject l m = ask-gives n possdup send.Nothing nothing l m
+  higher-gives n possdup (Reset new) l m = ask-gives n possdup send.Nothing nothing l m
+  higher-gives n possdup (GapFill new) l m = ask-gives n possdup send.Nothing nothing l m
+  higher-gives n possdup (Logon next) l m = ask-gives n possdup send.Nothing nothing l m
+  higher-gives n possdup Logout l m = ask-gives n possdup send.Nothing nothing l m
+  higher-gives n possdup Lookup l m = ask-gives n possdup send.Nothing nothing l m
+  higher-gives n possdup Business l m = ask-gives n possdup send.Nothing nothing l m
 
   -- 9
   equal-gives : (n : ℕ) (c : Content) → idIn c ≤ mostId → Gives (equal s n c)
@@ -267,7 +275,7 @@ module _ (s : Session) (e : 1 ≤ s .expected) (two : 2 ≤ s .own) (within : s 
     unfolding numbered
     numbered-gives =
         either Gives (ltb (m .number) (s .expected)) (λ t. lower-gives (m .possdup))
-        (λ t. either Gives (ltb (s .expected) (m .number)) (λ u. higher-gives (m .number) (m .content) (ltb-true (s .expected) (m .number) u) (h .number))
+        (λ t. either Gives (ltb (s .expected) (m .number)) (λ u. higher-gives (m .number) (m .possdup) (m .content) (ltb-true (s .expected) (m .number) u) (h .number))
         (λ u. either Gives (eqb (m .number) last) (λ z. stop-gives halt.StopLast) (λ z. equal-gives (m .number) (m .content) (h .id))))
 
     live-gives : (c : Content) → Gives (numbered s (m .number) (m .possdup) c) → Gives (live s (m .number) (m .possdup) c)

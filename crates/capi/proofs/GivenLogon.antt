@@ -37,7 +37,7 @@ use Rattle.capi.proofs.SessionLaws.{own-counted, connect-passes}
 
 -- a Connect that is not refused: the session waits, and as the text writer takes the password, the Logon is good
 abbrev waits : Session → Connected
-waits s = record { session = moved s Waiting (s .expected) (s .own + 1) (s .ahead); code = Good; number = s .own; next = s .expected }
+waits s = record { session = moved s Waiting (s .expected) (s .own + 1) 0; code = Good; number = s .own; next = s .expected }
 
 abbrev LaidBy : List ℕ → Type 0
 LaidBy password = (n next : ℕ) (compId d : List ℕ) → 1 ≤ n → goodCompId compId ≡ true → shownWritten (logonOf n password next compId d) ≡ byRoom logonSize (length d)

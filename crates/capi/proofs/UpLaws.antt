@@ -20,26 +20,26 @@ use Rattle.session.specs.declared.state.Halt.the-variants as halt
 use Rattle.session.specs.declared.state.State.{State}
 use Rattle.session.specs.declared.state.State.the-variants.{Down, Waiting, Live}
 use Rattle.session.specs.declared.state.Session.{Session}
-use Rattle.session.specs.State.{last, moved}
+use Rattle.session.specs.State.{last, repeatsAt, moved}
 use Rattle.session.specs.Day.{notMade, day, fresh, saved, notConnected, connectIn, connect, drop, step}
-use Rattle.session.proofs.Effect.{none-ahead, Asks, as-before, anew}
+use Rattle.session.proofs.Effect.{none-ahead, repeats-none, Asks, as-before, anew}
 use Rattle.session.specs.Course.{Follows, stepped, connected, dropped, Reached, begun, resumed, on, Standing}
 use Rattle.session.proofs.SessionLaws.{follows-kept, expected-rises, own-rises, down-nothing}
 
 -- a session that has asked for nothing
-none-standing : (s : Session) → 1 ≤ s .expected → 1 ≤ s .own → s .ahead ≡ 0 → ((s .state ≡ Down → ⊥) → 2 ≤ s .own) → Standing s
-none-standing s e o m u = record { expected = e; own = o; ahead = none-ahead s m; up = u; asked = λ h. absurd (omega arith) }
+none-standing : (s : Session) → 1 ≤ s .expected → 1 ≤ s .own → s .ahead ≡ 0 → s .repeats ≡ 0 → ((s .state ≡ Down → ⊥) → 2 ≤ s .own) → Standing s
+none-standing s e o m z u = record { expected = e; own = o; ahead = none-ahead s m z; up = u; asked = λ h. absurd (omega arith) }
 
-down-standing : (ours : List ℕ) (e o : ℕ) → 1 ≤ e → 1 ≤ o → Standing (record { state = Down; ours = ours; expected = e; own = o; ahead = 0 })
+down-standing : (ours : List ℕ) (e o : ℕ) → 1 ≤ e → 1 ≤ o → Standing (record { state = Down; ours = ours; expected = e; own = o; ahead = 0; repeats = 0 })
 down-standing ours e o h l =
-    none-standing (record { state = Down; ours = ours; expected = e; own = o; ahead = 0 }) h l refl (λ u. absurd (u refl))
+    none-standing (record { state = Down; ours = ours; expected = e; own = o; ahead = 0; repeats = 0 }) h l refl refl (λ u. absurd (u refl))
 
 -- from a session that is not Down
-asks-standing : {s t : Session} → Standing s → (s .state ≡ Down → ⊥) → Asks s t → s .own ≤ t .own → 1 ≤ t .ahead → (2 ≤ t .ahead) × (3 ≤ t .own)
-asks-standing h u (as-before e) r l =
+asks-standing : {s t : Session} → Standing s → (s .state ≡ Down → ⊥) → Asks s t → 1 ≤ t .ahead → (2 ≤ t .ahead) × (t .repeats + 3 ≤ t .own)
+asks-standing h u (as-before e r) l =
     let m = h .asked (omega arith) in
     (omega arith, omega arith)
-asks-standing h u (anew e o) r l = let p = h .up u in (omega (arith, h .expected), omega arith)
+asks-standing h u (anew e o z) l = let p = h .up u in (omega (arith, h .expected), omega arith)
 
 up-standing : {s t : Session} → Follows s t → (s .state ≡ Down → ⊥) → Standing s → Standing t
 up-standing f u h = record {
@@ -47,7 +47,7 @@ up-standing f u h = record {
   own = omega (arith, own-rises f, h .own);
   ahead = follows-kept f .ahead (h .ahead);
   up = λ d. omega (arith, own-rises f, h .up u);
-  asked = λ l. asks-standing h u (follows-kept f .asks l) (own-rises f) l;
+  asked = λ l. asks-standing h u (follows-kept f .asks l) l;
 }
 
 -- from a Down one
@@ -61,11 +61,12 @@ down-connected s password d h =
     subst (λ (p : State). P (connectIn p s password)) (sym d)
     (either P (eqb (s .own) last) (λ t. h)
     (λ t. either P (takes Ascii (widthOf (sortOf Password)) password)
-    (λ u. none-standing (moved s Waiting (s .expected) (s .own + 1) (s .ahead)) (h .expected) (omega arith) (h .ahead .down d) (λ v. omega (arith, h .own)))
+    (λ u. none-standing (moved s Waiting (s .expected) (s .own + 1) 0) (h .expected) (omega arith) refl (repeats-none s (s .expected) 0 (s .repeats) refl)
+    (λ v. omega (arith, h .own)))
     (λ u. h)))
 
 down-dropped : (s : Session) → Standing s → Standing (drop s)
-unfolding drop
+unfolding drop repeatsAt
 down-dropped s h = down-standing (s .ours) (s .expected) (s .own) (h .expected) (h .own)
 
 down-follows : {s t : Session} → Follows s t → s .state ≡ Down → Standing s → Standing t

@@ -70,15 +70,16 @@ fn session_shown(s: Session) -> CSession
         expected: s.expected(),
         own: s.own(),
         ahead: s.ahead(),
+        repeats: s.repeats(),
     }
 }
 
 // The session that was handed in, or 90.
 fn session_in(c: CSession) -> Made
-    ensures { λ r. ⌜ r ≡ held (c .state) (c .ours) (c .expected) (c .own) (c .ahead) ⌝ }
+    ensures { λ r. ⌜ r ≡ held (c .state) (c .ours) (c .expected) (c .own) (c .ahead) (c .repeats) ⌝ }
 {
     let ours = c.ours;
-    Session::held(c.state, ours, c.expected, c.own, c.ahead)
+    Session::held(c.state, ours, c.expected, c.own, c.ahead, c.repeats)
 }
 
 fn made(refusal: u32, session: CSession) -> CMade
@@ -228,7 +229,7 @@ fn used_by(state: u32, s: &[u8]) -> usize
     front_length(s)
 }
 
-// Business in its turn: the answer, with nothing looked up.
+// Business in its turn: the answer, with nothing looked up. E changes, so the count is 0.
 fn in_turn(c: CSession, used: usize) -> CStepped
     requires { ⌜ (c .state ≡ stateNumber Live) × (c .expected < last) ⌝ }
     ensures { λ r. ⌜ r ≡ shownStepped used (take (sessionIn c) (c .expected + 1) (c .own) Nothing (Business (c .expected))) ⌝ }
@@ -243,6 +244,7 @@ fn in_turn(c: CSession, used: usize) -> CStepped
             expected: e + 1,
             own: c.own,
             ahead: ahead_at(c.ahead, e + 1),
+            repeats: 0,
         },
         first: to_send(SEND_NONE, 0, 0, 0),
         second: to_send(SEND_NONE, 0, 0, 0),

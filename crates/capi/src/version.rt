@@ -2,8 +2,8 @@
 ghost use mathlib.Core.Path.{_≡_};
 ghost use Rattle.capi.specs.Version.{version};
 
-// 3.1.0.
-const VERSION: u32 = 30100;
+// 4.0.0.
+const VERSION: u32 = 40000;
 
 pub fn version_c() -> u32
     ensures { λ r. ⌜ r ≡ version ⌝ }

@@ -10,5 +10,6 @@ pub mod SecondCalls
 pub mod WorkedDay
 pub mod Figures
 pub mod Whole
+pub mod Hole
 pub mod Bears
 pub mod WorkedReport

@@ -31,16 +31,19 @@ use Rattle.fields.specs.Check.{whole, yesNo, fixedTaken, fixed, checkSort, chec
 use Rattle.fields.specs.Cut.{positions, extent, extentOf, cutAt, cut, bytesAt}
 use Rattle.fields.specs.Walk.{onward, walkThrough, walkOf}
 use Rattle.fields.specs.Value.{numberValue, decimalValue, textValue, sortValue, sortText, fieldValue, fieldText, rowValue, rowText, valueIn, textIn, valueAt, textAt, valueOf}
+use Rattle.message.specs.declared.read.Reading.the-variants.{Refused}
+use Rattle.message.specs.declared.refusal.Refusal.the-variants.{BadSum}
 use Rattle.message.specs.Frame.{partIn, lengthIn, headerIn, compIdIn, mapIn, bodyIn, sumIn, framedBy, framed}
 use Rattle.message.specs.Vet.{goodCompId, goodHeader, vetWalk, vetPlace, vetSets, vetFields, vet}
 use Rattle.message.specs.Read.{readVetted, readWhole, readFramed, readOf}
 use Rattle.message.specs.Refusal.{numberOf}
 use Rattle.session.specs.declared.state.Session.{Session}
-use Rattle.session.specs.declared.state.State.the-variants.{Live}
+use Rattle.session.specs.declared.state.State.the-variants.{Down, Live}
 use Rattle.session.specs.Arrival.{upTo, isYes, sequenceReset as sequenceResetContent, contentOf, sameBytes, isOurs, messageIn, arrivalBy, arrivalOf}
-use Rattle.session.specs.State.{told, unmoved, aheadAt, take}
-use Rattle.session.specs.Rules.{forUs, fillTo, logon as logonRule, waiting, slots, ask, higher, gapFill, equal, numbered, live, lower, ruledIn, ruled}
+use Rattle.session.specs.State.{told, repeatsAt, unmoved, leave, stop, aheadAt, take}
+use Rattle.session.specs.Rules.{forUs, fillTo, logon as logonRule, waiting, slots, request, again, ask, higher, gapFill, equal, numbered, live, lower, ruledIn, ruled}
 use Rattle.session.specs.Day.{stepBy, day, fresh, connectIn, connect, drop, refused as refusedRule, arrived, stepIn, step}
+use Rattle.session.specs.declared.arrival.Content.the-variants.{GapFill, Business}
 use Rattle.demands.specs.Content.{Said, Content, fieldsAt, contentIn, saidBy, said, isBusiness}
 use Rattle.demands.specs.Gateway.{
   Published,
@@ -64,6 +67,7 @@ use Rattle.demands.specs.Gateway.{
   afterAll,
   handedAll,
 }
+use Rattle.demands.specs.Hole.{isNumbered, Past, Many, none, other, past}
 use Rattle.demands.specs.Run.{Run, done, business, gapFill as jumps, lendAll}
 use Rattle.demands.specs.Whole.{Whole}
 use Rattle.demands.proofs.Whole.{fair-both, both-halves}
@@ -145,6 +149,16 @@ answerRun =
     businessBytes 10 1 15 0x39A38C1A ∷
     []
 
+-- an answer with a hole, twice: 8 is spoiled, in its checksum, and what stands behind it arrives
+unfoldable pub holeRun : List (List ℕ)
+holeRun =
+    reportBytes 8 1 0xC2A22CAC ∷
+    fillBytes 9 10 0x299436A6 ∷
+    businessBytes 10 1 15 0x39A38C1A ∷
+    reportBytes 8 1 0xC2A22CAC ∷
+    fillBytes 9 10 0x299436A6 ∷
+    []
+
 -- what is fair by a list is fair by a longer one
 published-more : (L M : List Content) (n : ℕ) (m : Content) → Published L n m → Published (L ++ M) n m
 published-more L M n m p = record {
@@ -188,12 +202,17 @@ ninth k a b =
     subst (SessionNumber publishedOn) e (record { message = heartbeatSaid 9; published = p; session = refl })
 
 -- all of it is fair; the day leaves M standing at 10, a number ahead; the run is unbroken from there; and the list's business is computed, the report
--- among it
+-- among it. In the answer with a hole 8 is refused for its checksum and three are past it; the session has asked twice more, with 5 and 6, and stopped
+-- with a Logout, 7
 pub record WorkedOn : Type 0 where
   pub fair : AllFair publishedOn dayBefore
-  pub standing : afterAll (fresh ours .session) dayBefore ≡ record { state = Live; ours = fixedBytes 12 ours; expected = 8; own = 5; ahead = 10 }
+  pub standing : afterAll (fresh ours .session) dayBefore ≡ record { state = Live; ours = fixedBytes 12 ours; expected = 8; own = 5; ahead = 10; repeats = 0 }
   pub run : Run (fixedBytes 12 ours) 8 answerRun 11
   pub copies : AllFair publishedOn (lendAll answerRun)
+  pub spoiled : readOf (reportBytes 8 1 0xC2A22CAC) ≡ Refused (BadSum 179)
+  pub hole : Many (fixedBytes 12 ours) 8 3 holeRun
+  pub stopped : afterAll (fresh ours .session) (dayBefore ++ lendAll holeRun)
+      ≡ record { state = Down; ours = fixedBytes 12 ours; expected = 8; own = 8; ahead = 0; repeats = 0 }
   pub listed : below publishedOn 11
       ≡ businessSaid 2 11 ∷ businessSaid 3 12 ∷ businessSaid 5 13 ∷ businessSaid 7 14 ∷ reportSaid 8 ∷ businessSaid 10 15 ∷ []
 
@@ -208,9 +227,9 @@ unfolding bits numberOfBits messageBits polynomial differ less divided complemen
     goodCompId goodHeader vetWalk vetPlace vetSets vetFields vet readVetted readWhole readFramed readOf
     upTo isYes sequenceResetContent contentOf fieldsAt contentIn saidBy said bytesOf logonBytes businessBytes heartbeatBytes fillBytes logonSaid businessSaid
     reportFields reportBytes reportSaid
-    numberOf sameBytes isOurs messageIn arrivalBy arrivalOf unmoved aheadAt take fillTo logonRule waiting told slots ask higher gapFill equal numbered live lower forUs ruledIn ruled
+    numberOf sameBytes isOurs messageIn arrivalBy arrivalOf unmoved aheadAt take fillTo logonRule waiting told repeatsAt slots request again ask higher gapFill equal numbered live lower stop leave forUs ruledIn ruled isNumbered
     day fresh connectIn connect drop refusedRule arrived stepIn stepBy step after handedBy handed afterAll handedAll
-    published later workedDay aheadDay answerRun lendAll below businessOf isBusiness heartbeatSaid
+    published later workedDay aheadDay answerRun holeRun lendAll below businessOf isBusiness heartbeatSaid
 worked-on = record {
   fair =
       fair-both (all-more published later (worked .fair))
@@ -226,6 +245,32 @@ worked-on = record {
       more (fills {h = record { messagetype = 4; number = 9; possdup = 1; possresend = 0 }} {n = 63} {new = 10} refl refl ninth) (
       more (true-copy (businessSaid 10 15) refl refl (omega arith) (omega arith) (λ e. omega arith))
       none));
+  spoiled = refl;
+  hole =
+      let nine : Past (fixedBytes 12 ours) 8 (fillBytes 9 10 0x299436A6) = record {
+        header = record { messagetype = 4; number = 9; possdup = 1; possresend = 0 };
+        length = 63;
+        read = refl;
+        for-us = refl;
+        possdup = refl;
+        ahead = omega arith;
+        content = GapFill 10;
+        told = refl;
+        numbered = refl;
+      } in
+      let ten : Past (fixedBytes 12 ours) 8 (businessBytes 10 1 15 0x39A38C1A) = record {
+        header = record { messagetype = 9; number = 10; possdup = 1; possresend = 0 };
+        length = 61;
+        read = refl;
+        for-us = refl;
+        possdup = refl;
+        ahead = omega arith;
+        content = Business;
+        told = refl;
+        numbered = refl;
+      } in
+      other (past nine (past ten (other (past nine none))));
+  stopped = refl;
   listed = refl;
 }
 

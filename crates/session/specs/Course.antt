@@ -13,7 +13,7 @@ use Rattle.session.specs.declared.state.Session.{Session}
 use Rattle.session.specs.declared.state.State.the-variants.{Down, Waiting}
 use Rattle.session.specs.declared.state.Stepped.{Stepped}
 use Rattle.session.specs.Day.{fresh, saved, connect, drop, step}
-use Rattle.session.specs.State.{last, rowNone, sortNumber, lastOf}
+use Rattle.session.specs.State.{last, mostRepeats, rowNone, sortNumber, lastOf}
 
 -- E after a row: one past its last number, which of a filled or reset row is New - 1; without a row it stays
 unfoldable pub expectedBy : ℕ → Row → ℕ
@@ -31,11 +31,13 @@ pub data Reached : Session → Type 0 where
   resumed : (compId : List ℕ) {e o : ℕ} → e ≤ last → o ≤ last → Reached (saved compId e o .session)
   on : {s t : Session} → Reached s → Follows s t → Reached t
 
--- M is 0 whenever the state is Down or Waiting, and otherwise 0 or at least E
+-- M is 0 whenever the state is Down or Waiting, and otherwise 0 or at least E; there is no repeat where M is 0, and there are at most two
 pub record Ahead (s : Session) : Type 0 where
   pub down : s .state ≡ Down → s .ahead ≡ 0
   pub waiting : s .state ≡ Waiting → s .ahead ≡ 0
   pub up : 1 ≤ s .ahead → s .expected ≤ s .ahead
+  pub none : s .ahead ≡ 0 → s .repeats ≡ 0
+  pub most : s .repeats ≤ mostRepeats
 
 -- E and O are numbers of 32 bits, counted from 1
 pub record Sound (s : Session) : Type 0 where
@@ -44,13 +46,13 @@ pub record Sound (s : Session) : Type 0 where
   pub ahead : Ahead s
 
 -- E and O are counted from 1; where the session is not Down, Connect's Logon has used up our number 1; and where it has asked for a message, that was
--- above an E of at least 1, and the Resend Request has used up a number more
+-- above an E of at least 1, and the Resend Request and each repeat have used up a number more
 pub record Standing (s : Session) : Type 0 where
   pub expected : 1 ≤ s .expected
   pub own : 1 ≤ s .own
   pub ahead : Ahead s
   pub up : (s .state ≡ Down → ⊥) → 2 ≤ s .own
-  pub asked : 1 ≤ s .ahead → (2 ≤ s .ahead) × (3 ≤ s .own)
+  pub asked : 1 ≤ s .ahead → (2 ≤ s .ahead) × (s .repeats + 3 ≤ s .own)
 
 -- the session is as it was, nothing is sent, there is no row: the code is all
 pub record Untouched (s : Session) (k : Code) (r : Stepped) : Type 0 where

@@ -1,6 +1,6 @@
 -- A session told in numbers (docs/DECISIONS.md, 27): which numbers some day has (document 01, "The session").
-use Prim.Native.Nat.{ℕ}
-use mathlib.Core.Bool.{Bool, true, false, cond, _&&_, _||_}
+use Prim.Native.Nat.{ℕ, _+_}
+use mathlib.Core.Bool.{Bool, true, false, cond, _&&_}
 use mathlib.Core.List.{List, [], _∷_}
 use lib.Dec.{eqb, leb}
 use lib.ListN.{length, drop}
@@ -14,6 +14,7 @@ use Rattle.session.specs.declared.state.Halt.the-variants.{NotASession}
 use Rattle.session.specs.declared.state.State.{State}
 use Rattle.session.specs.declared.state.State.the-variants.{Down, Waiting, Live}
 use Rattle.session.specs.Day.{notMade}
+use Rattle.session.specs.State.{mostRepeats}
 
 -- the states' numbers, and back; a number above Live's is refused
 abbrev pub stateNumber : State → ℕ
@@ -36,18 +37,21 @@ isPlainCompId ours = cond (goodCompId (fixedPart Ascii compIdBytes ours)) (allZe
 unfoldable pub leastOwn : ℕ → ℕ
 leastOwn state = cond (eqb state (stateNumber Down)) 1 2
 
--- M is 0; or the session is Live, M is not below E and above 1, since it was above an E of 1 or more, and O is at least 3, since the Resend
--- Request has used up a number too
-unfoldable pub isAhead : ℕ → ℕ → ℕ → ℕ → Bool
-isAhead state e o m = eqb m 0 || (eqb state (stateNumber Live) && leb 2 m && leb e m && leb 3 o)
+-- M is 0, and the count with it; or the session is Live, M is not below E and above 1, since it was above an E of 1 or more, the count is at most 2,
+-- and O is at least 3 more than the count, since the Resend Request and each repeat have used up a number too
+unfoldable pub isAhead : ℕ → ℕ → ℕ → ℕ → ℕ → Bool
+isAhead state e o m repeats =
+    cond (eqb m 0) (eqb repeats 0)
+    (eqb state (stateNumber Live) && leb 2 m && leb e m && leb repeats mostRepeats && leb (repeats + 3) o)
 
--- whether some day has such a session
-unfoldable pub isHeld : ℕ → List ℕ → ℕ → ℕ → ℕ → Bool
-isHeld state ours e o m = leb state (stateNumber Live) && isPlainCompId ours && leb 1 e && leb (leastOwn state) o && isAhead state e o m
+-- whether some day has such a session, but for a count that no rule looks at (docs/DECISIONS.md, 64)
+unfoldable pub isHeld : ℕ → List ℕ → ℕ → ℕ → ℕ → ℕ → Bool
+isHeld state ours e o m repeats =
+    leb state (stateNumber Live) && isPlainCompId ours && leb 1 e && leb (leastOwn state) o && isAhead state e o m repeats
 
 -- it is taken in, and any other refused with 90
-unfoldable pub held : ℕ → List ℕ → ℕ → ℕ → ℕ → Made
-held state ours e o m =
-    cond (isHeld state ours e o m)
-    (record { code = Good; session = record { state = stateAt state; ours = ours; expected = e; own = o; ahead = m } })
+unfoldable pub held : ℕ → List ℕ → ℕ → ℕ → ℕ → ℕ → Made
+held state ours e o m repeats =
+    cond (isHeld state ours e o m repeats)
+    (record { code = Good; session = record { state = stateAt state; ours = ours; expected = e; own = o; ahead = m; repeats = repeats } })
     (notMade (Halted NotASession))

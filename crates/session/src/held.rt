@@ -3,6 +3,7 @@ use crate::day::Made;
 use crate::day::not_made;
 use crate::state::Code;
 use crate::state::Halt;
+use crate::state::MOST_REPEATS;
 use crate::state::Session;
 use crate::state::State;
 use message::frame::COMP_ID_BYTES;
@@ -73,11 +74,11 @@ fn least_own(state: u32) -> u32
     if state == DOWN { 1 } else { 2 }
 }
 
-fn is_ahead(state: u32, e: u32, o: u32, m: u32) -> bool
-    ensures { λ r. ⌜ r ≡ isAhead state e o m ⌝ }
+fn is_ahead(state: u32, e: u32, o: u32, m: u32, repeats: u32) -> bool
+    ensures { λ r. ⌜ r ≡ isAhead state e o m repeats ⌝ }
 {
     if m == 0 {
-        return true;
+        return repeats == 0;
     }
     if state != LIVE {
         return false;
@@ -88,12 +89,16 @@ fn is_ahead(state: u32, e: u32, o: u32, m: u32) -> bool
     if m < e {
         return false;
     }
-    3 <= o
+    if MOST_REPEATS < repeats {
+        return false;
+    }
+    // Connect's Logon, the Resend Request and each repeat have used up a number.
+    repeats + 3 <= o
 }
 
 // Whether some day has such a session.
-fn is_held(state: u32, ours: &[u8; COMP_ID_BYTES], e: u32, o: u32, m: u32) -> bool
-    ensures { λ r. ⌜ r ≡ isHeld state (now (ours .entry)) e o m ⌝ }
+fn is_held(state: u32, ours: &[u8; COMP_ID_BYTES], e: u32, o: u32, m: u32, repeats: u32) -> bool
+    ensures { λ r. ⌜ r ≡ isHeld state (now (ours .entry)) e o m repeats ⌝ }
 {
     if LIVE < state {
         return false;
@@ -107,15 +112,15 @@ fn is_held(state: u32, ours: &[u8; COMP_ID_BYTES], e: u32, o: u32, m: u32) -> bo
     if o < least_own(state) {
         return false;
     }
-    is_ahead(state, e, o, m)
+    is_ahead(state, e, o, m, repeats)
 }
 
 impl Session {
     // The session of these numbers; 90 where no day has it.
-    pub fn held(state: u32, ours: [u8; COMP_ID_BYTES], e: u32, o: u32, m: u32) -> Made
-        ensures { λ r. ⌜ r ≡ held state ours e o m ⌝ }
+    pub fn held(state: u32, ours: [u8; COMP_ID_BYTES], e: u32, o: u32, m: u32, repeats: u32) -> Made
+        ensures { λ r. ⌜ r ≡ held state ours e o m repeats ⌝ }
     {
-        if !is_held(state, &ours, e, o, m) {
+        if !is_held(state, &ours, e, o, m, repeats) {
             return not_made(Code::Halted(Halt::NotASession));
         }
         Made {
@@ -126,6 +131,7 @@ impl Session {
                 expected: e,
                 own: o,
                 ahead: m,
+                repeats,
             },
         }
     }

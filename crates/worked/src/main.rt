@@ -355,12 +355,12 @@ fn say_state(state: State) {
     }
 }
 
-// The state, E, O and M.
+// The state, E, O, M and how often it was asked again from this E.
 fn say_session(s: Session) {
     say_state(s.state());
     say_pair(s.expected(), s.own());
     say(b" ");
-    say_number(s.ahead() as u64);
+    say_pair(s.ahead(), s.repeats());
 }
 
 fn made(m: Made) -> Session {

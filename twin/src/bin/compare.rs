@@ -14,11 +14,11 @@ use std::fmt::{Debug, Formatter};
 use std::io::Write;
 use std::process::{exit, Command, Stdio};
 use std::time::{Duration, Instant};
-use twin::make::{self, Event, Rng, Text};
+use twin::make::{self, Event, Rng, Sent, Text};
 use twin::reader::{self, Head, A_FIELD};
 use twin::reports::LIST;
 use twin::session::{self, Ended, Phase, RowSort, A_ROW, A_SEND, LAST, NOT_A_SEND};
-use twin::session::{LAST_KIND, ROWS_A_STEP, ROW_PLACE, SENDS_A_STEP};
+use twin::session::{ASKED_ONCE, LAST_KIND, MOST_REPEATS, ROWS_A_STEP, ROW_PLACE, SENDS_A_STEP};
 use twin::tables::{self, types};
 use twin::wire::{self, Allowed, Refusal, BODY_AT, MAP_WIDTH, TRAILER};
 use twin::writer::{self, HeadValues, ToWrite};
@@ -32,17 +32,18 @@ const ENOUGH: u32 = 10;
 // ---- Counting ----
 
 /// The categories, with their parts of a hundred of the random comparisons.
-const CATEGORIES: [(&str, u64); 13] = [
-    ("short inputs", 7),
-    ("valid messages", 27),
-    ("writes, good and bad", 7),
-    ("damage", 10),
-    ("histories", 19),
-    ("sessions that no day has", 10),
+const CATEGORIES: [(&str, u64); 14] = [
+    ("short inputs", 6),
+    ("valid messages", 24),
+    ("writes, good and bad", 6),
+    ("damage", 9),
+    ("histories", 17),
+    ("sessions that no day has", 9),
     ("plan", 4),
     ("crc32c", 1),
     ("decimals as text", 1),
-    ("many messages in one call", 14),
+    ("many messages in one call", 12),
+    ("holes in the answer", 11),
     ("texts, every character", 0),
     ("version", 0),
     ("daysheet", 0),
@@ -55,6 +56,9 @@ struct Tally {
     met: [u64; NOT_A_SEND as usize + 1],
     /// How often a call with many messages ended in each way, likewise.
     ended: [u64; Ended::NoSlot as usize + 1],
+    /// How often days with holes met each situation: in single steps, and in calls
+    /// with many messages.
+    holes: [Situations; 2],
     differences: u32,
     began: Instant,
     told: Instant,
@@ -67,6 +71,7 @@ impl Tally {
             counts: [0; CATEGORIES.len()],
             met: [0; NOT_A_SEND as usize + 1],
             ended: [0; Ended::NoSlot as usize + 1],
+            holes: [[0; SITUATIONS.len()]; 2],
             differences: 0,
             began: Instant::now(),
             told: Instant::now(),
@@ -131,13 +136,22 @@ impl Tally {
             "many messages ended: Short ({}), Down ({}), no slot ({})",
             short, down, no_slot
         );
+        let [singles, many] = &self.holes;
+        println!("holes in the answer, single steps: {}", met_of(singles));
+        println!("holes in the answer, many messages: {}", met_of(many));
+        // A run that differences have ended did not come so far.
+        let is_whole = self.differences < ENOUGH;
+        let missed = is_whole && (missed(singles) || missed(many));
+        if missed {
+            println!("compare: a situation of the holes was never met, so nothing is said of it");
+        }
         println!("seconds {}", self.began.elapsed().as_secs());
         println!(
             "compare: {} comparisons, {} differences",
             self.total(),
             self.differences
         );
-        exit((self.differences > 0) as i32);
+        exit((self.differences > 0 || missed) as i32);
     }
 }
 
@@ -161,12 +175,13 @@ fn hex(bytes: &[u8]) -> String {
 /// A session as an argument, its Comp ID in hex.
 fn shown(s: &proved::Session) -> String {
     format!(
-        "session state {} comp_id {} E {} O {} M {}",
+        "session state {} comp_id {} E {} O {} M {} repeats {}",
         s.state,
         hex(&s.comp_id),
         s.expected,
         s.own,
-        s.ahead
+        s.ahead,
+        s.repeats
     )
 }
 
@@ -304,6 +319,7 @@ fn struct_of(session: &session::Session) -> proved::Session {
         expected: session.e,
         own: session.o,
         ahead: session.m,
+        repeats: session.repeats,
     }
 }
 
@@ -316,10 +332,17 @@ fn is_session(s: &proved::Session) -> bool {
         && zeros.iter().all(|&byte| byte == 0);
     // Down is before the first Connect, or after it; up is after a Logon.
     let least_own = if s.state == proved::DOWN { 1 } else { 2 };
-    // Asking for what is missing took a number of ours, and what made us ask
-    // lay ahead of E and is not reached yet.
-    let good_ahead = s.ahead == 0
-        || (s.state == proved::LIVE && s.ahead >= 2 && s.ahead >= s.expected && s.own >= 3);
+    // Asking for what is missing took a number of ours, each repeat one more, and
+    // what made us ask lay ahead of E and is not reached yet.
+    let good_ahead = if s.ahead == 0 {
+        s.repeats == 0
+    } else {
+        s.state == proved::LIVE
+            && s.ahead >= 2
+            && s.ahead >= s.expected
+            && s.repeats <= MOST_REPEATS
+            && s.own >= ASKED_ONCE + s.repeats
+    };
     s.state <= proved::LIVE && good_comp_id && s.expected >= 1 && s.own >= least_own && good_ahead
 }
 
@@ -335,6 +358,7 @@ fn session_of(s: &proved::Session) -> Option<session::Session> {
         e: s.expected,
         o: s.own,
         m: s.ahead,
+        repeats: s.repeats,
     })
 }
 
@@ -345,6 +369,7 @@ const NO_DAY: proved::Session = proved::Session {
     expected: 1,
     own: 1,
     ahead: 0,
+    repeats: 0,
 };
 
 fn made(answer: Result<session::Session, Refusal>) -> Made {
@@ -959,6 +984,7 @@ fn damage(tally: &mut Tally, rng: &mut Rng, until: u64) {
             e: [number, rng.any_u32().max(1)][rng.index(2)],
             o: rng.any_u32().max(2),
             m: 0,
+            repeats: 0,
         };
         hold_step(tally, struct_of(&session), &bytes);
         // The damaged map and body for the writer, where there are any.
@@ -1009,32 +1035,41 @@ fn histories(tally: &mut Tally, rng: &mut Rng, until: u64) {
                 hold_drop(tally, s);
                 hold_put_logon(tally, s, &odd_password(rng), logon_room(rng));
             }
-            match event {
-                Event::Drop => s = hold_drop(tally, s),
-                Event::Connect(password) => {
-                    let answer = hold_connect(tally, s, &password);
-                    s = answer.session;
-                    if answer.refusal != 0 {
-                        continue;
-                    }
-                    for room in rooms(rng, LOGON_LENGTH) {
-                        hold_put_logon(tally, s, &password, room);
-                    }
-                }
-                Event::Lend(bytes) => {
-                    let answer = hold_step(tally, s, &bytes);
-                    s = answer.session;
-                    for send in [answer.first, answer.second] {
-                        if send.kind == 0 {
-                            continue;
-                        }
-                        let length = length_of(&s, send);
-                        for room in rooms(rng, length) {
-                            hold_put(tally, s, send, room);
-                        }
-                    }
+            s = hold_event(tally, rng, s, &event);
+        }
+    }
+}
+
+/// One event of a history, with what is sent then as bytes; the session after it.
+fn hold_event(
+    tally: &mut Tally,
+    rng: &mut Rng,
+    s: proved::Session,
+    event: &Event,
+) -> proved::Session {
+    match event {
+        Event::Drop => hold_drop(tally, s),
+        Event::Connect(password) => {
+            let answer = hold_connect(tally, s, password);
+            if answer.refusal == 0 {
+                for room in rooms(rng, LOGON_LENGTH) {
+                    hold_put_logon(tally, answer.session, password, room);
                 }
             }
+            answer.session
+        }
+        Event::Lend(bytes) => {
+            let answer = hold_step(tally, s, bytes);
+            for send in [answer.first, answer.second] {
+                if send.kind == 0 {
+                    continue;
+                }
+                let length = length_of(&answer.session, send);
+                for room in rooms(rng, length) {
+                    hold_put(tally, answer.session, send, room);
+                }
+            }
+            answer.session
         }
     }
 }
@@ -1067,17 +1102,25 @@ fn some_session(rng: &mut Rng) -> session::Session {
         e: rng.any_u32().max(1),
         o: rng.any_u32().max(3),
         m: 0,
+        repeats: 0,
     };
     if session.phase == Phase::Live && rng.chance(50) {
-        let ahead = session.e.saturating_add(rng.below(5) as u32);
-        session.m = ahead.max(2);
+        open_hole(rng, &mut session);
     }
     session
 }
 
+/// Lets M stand in a Live session, and a count with it that O has numbers for.
+fn open_hole(rng: &mut Rng, session: &mut session::Session) {
+    let ahead = session.e.saturating_add(rng.below(5) as u32);
+    session.m = ahead.max(2);
+    session.repeats = rng.below(u64::from(MOST_REPEATS) + 1) as u32;
+    session.o = session.o.max(ASKED_ONCE + session.repeats);
+}
+
 /// One field made another, so that the struct may no longer be a session.
 fn bend(rng: &mut Rng, s: &mut proved::Session) {
-    match rng.below(6) {
+    match rng.below(7) {
         0 => s.state = small_or_any(rng),
         1 => {
             let at = rng.index(12);
@@ -1091,7 +1134,8 @@ fn bend(rng: &mut Rng, s: &mut proved::Session) {
             }
         }
         3 => s.expected = small_or_any(rng),
-        4 => s.own = rng.below(5) as u32,
+        4 => s.own = rng.below(7) as u32,
+        5 => s.repeats = COUNTS[rng.index(COUNTS.len())],
         _ => {
             s.ahead = match rng.below(5) {
                 0 => s.expected.wrapping_sub(1),
@@ -1109,6 +1153,7 @@ fn any_struct(rng: &mut Rng) -> proved::Session {
         expected: rng.any_u32(),
         own: rng.any_u32(),
         ahead: rng.any_u32(),
+        repeats: rng.any_u32(),
         ..proved::Session::default()
     };
     for byte in &mut s.comp_id {
@@ -1228,9 +1273,70 @@ fn every_logon(tally: &mut Tally) {
     }
 }
 
+/// Counts of repeats that a session may have, those just above them, and some
+/// whose low bits look good or whose sum with the least O runs over.
+const COUNTS: [u32; 11] = [
+    0,
+    1,
+    2,
+    3,
+    4,
+    1 << 8,
+    1 << 16,
+    1 << 31,
+    LAST - 2,
+    LAST - 1,
+    LAST,
+];
+
+/// Both sides of every bound of a session's numbers: each of the least O with its
+/// count is among them.
+const SESSION_EDGES: [u32; 10] = [0, 1, 2, 3, 4, 5, 6, LAST - 2, LAST - 1, LAST];
+
+/// A session of every state and one more, with every count of repeats and E, O and
+/// M at every edge, to each call that takes a session.
+fn every_count(tally: &mut Tally, rng: &mut Rng) {
+    let us = small_sessions()[0];
+    let session = session_of(&us).expect("a session of some day");
+    let heartbeat = Sent::Of(types::HEARTBEAT);
+    let ahead = make::sent(rng, &session.comp_id, LAST, 1, heartbeat);
+    let logout = shown_send(session::Send::Logout { number: 2 });
+    for state in proved::DOWN..=proved::LIVE + 1 {
+        for repeats in COUNTS {
+            for expected in SESSION_EDGES {
+                for own in SESSION_EDGES {
+                    for ahead_of in SESSION_EDGES {
+                        let s = proved::Session {
+                            state,
+                            expected,
+                            own,
+                            ahead: ahead_of,
+                            repeats,
+                            ..us
+                        };
+                        hold_drop(tally, s);
+                        hold_step(tally, s, &ahead);
+                        match rng.below(4) {
+                            0 => {
+                                hold_connect(tally, s, b"");
+                            }
+                            1 => {
+                                hold_many(tally, s, &ahead, Rooms::steps(1));
+                            }
+                            2 => hold_put(tally, s, logout, proved::LONGEST_WRITTEN),
+                            _ => hold_put_logon(tally, s, b"", proved::LONGEST_WRITTEN),
+                        }
+                    }
+                }
+            }
+        }
+    }
+}
+
 fn odd_sessions(tally: &mut Tally, rng: &mut Rng, until: u64) {
     every_edge(tally);
     every_logon(tally);
+    every_count(tally, rng);
     let until = tally.count() + until;
     while tally.count() < until {
         let some = some_session(rng);
@@ -1482,7 +1588,8 @@ fn plain_many(s: proved::Session, bytes: &[u8], mut lists: Lists) -> (Done, List
     let (rows, sends) = lists.lent();
     let done = fast.steps(bytes, rows, sends);
     session.phase = fast.phase;
-    (session.e, session.o, session.m) = (fast.e, fast.o, fast.m);
+    (session.e, session.o) = (fast.e, fast.o);
+    (session.m, session.repeats) = (fast.m, fast.repeats);
     (Done::of(struct_of(&session), done), lists)
 }
 
@@ -1525,6 +1632,12 @@ fn singles(s: proved::Session, bytes: &[u8], mut lists: Lists) -> (Done, Lists) 
         if answer.refusal == wire::SHORT {
             done.ended = Ended::Short as u32;
             done.besides = answer.besides;
+            return (done, lists);
+        }
+        // A session that its own step gave and refuses now: the turn would be
+        // endless, and what it ends with is a difference.
+        if answer.refusal == NOT_A_SESSION {
+            done.refusal = NOT_A_SESSION;
             return (done, lists);
         }
         let Row { kind, first, last } = answer.row;
@@ -1658,7 +1771,7 @@ fn session_for_many(rng: &mut Rng) -> session::Session {
         session.o = session.o.min(LAST - SPARE);
         if session.e > LAST - SPARE {
             session.e = LAST - SPARE;
-            session.m = 0;
+            (session.m, session.repeats) = (0, 0);
         }
     }
     session
@@ -1707,17 +1820,436 @@ fn many_messages(tally: &mut Tally, rng: &mut Rng, until: u64) {
                 1 | 2 => bend(rng, &mut s),
                 _ => {}
             }
-            let done = hold_many(tally, s, &bytes, Rooms::enough(bytes.len()));
-            hold_many(tally, s, &bytes, small_rooms(rng, bytes.len()));
-            for _ in 0..6 {
-                let cut = rng.index(bytes.len() + 1);
-                hold_in_two(tally, met(&done), s, &bytes, cut);
-            }
+            let done = hold_slice(tally, rng, s, &bytes, 6);
             match session_of(&done.session) {
                 Some(next) if next.phase != Phase::Down => session = next,
                 _ => break,
             }
         }
+    }
+}
+
+/// A slice into lists with enough room and with little, and cut in two so often.
+fn hold_slice(
+    tally: &mut Tally,
+    rng: &mut Rng,
+    s: proved::Session,
+    bytes: &[u8],
+    cuts: usize,
+) -> Done {
+    let done = hold_many(tally, s, bytes, Rooms::enough(bytes.len()));
+    hold_many(tally, s, bytes, small_rooms(rng, bytes.len()));
+    for _ in 0..cuts {
+        let cut = rng.index(bytes.len() + 1);
+        hold_in_two(tally, met(&done), s, bytes, cut);
+    }
+    done
+}
+
+// ---- Holes in the answer ----
+
+/// A step of a day with holes, as the twin does it.
+struct Seen {
+    before: session::Session,
+    /// None where the reader refuses the message.
+    head: Option<Head>,
+    answer: session::Answer,
+    after: session::Session,
+    /// Whether the count was cleared by another E while the same M stands.
+    afresh: bool,
+}
+
+impl Seen {
+    /// Whether the step asked again from an E from which it had asked again so
+    /// often.
+    fn asks_again(&self, before: u32) -> bool {
+        self.before.repeats == before && self.after.repeats == before + 1
+    }
+
+    /// Whether a gap fill stands before what is asked.
+    fn fills_first(&self) -> bool {
+        let [first, second] = self.answer.sends;
+        matches!(first, session::Send::GapFill { .. })
+            && matches!(second, session::Send::ResendRequest { .. })
+    }
+
+    /// Whether the step answered this number to a message ahead of E with this
+    /// PossDup, while M stood.
+    fn ahead(&self, poss_dup: u8, code: u32) -> bool {
+        let is_ahead = |head: Head| head.number > self.before.e && head.poss_dup == poss_dup;
+        self.before.m != 0 && self.answer.code == code && self.head.map_or(false, is_ahead)
+    }
+
+    fn is_of(&self, message_type: u8) -> bool {
+        self.head
+            .map_or(false, |head| head.message_type == message_type)
+    }
+
+    fn is_spent(&self) -> bool {
+        self.ahead(1, session::REPEATS_SPENT)
+    }
+
+    /// Whether PossDup 0 left all as it was, with so many repeats asked before.
+    fn is_quiet(&self, repeats: u32) -> bool {
+        self.ahead(0, 0)
+            && self.before.repeats == repeats
+            && !self.is_of(types::SEQUENCE_RESET)
+            && self.after == self.before
+    }
+
+    /// Whether the step kept a count that is not 0, and sent nothing.
+    fn keeps(&self) -> bool {
+        self.before.repeats > 0
+            && self.after == self.before
+            && self.answer.sends == [session::Send::None; 2]
+    }
+
+    /// Whether the step cleared a count that was not 0 and left the session Live.
+    fn clears(&self) -> bool {
+        self.before.repeats > 0 && self.after.repeats == 0 && self.after.phase == Phase::Live
+    }
+
+    fn is_last(&self) -> bool {
+        self.before.o == LAST
+    }
+}
+
+type Situation = (&'static str, fn(&Seen) -> bool);
+
+/// What days with holes must meet. One that is never met fails the run, so that
+/// none is lost without a word when the makers change.
+const SITUATIONS: [Situation; 25] = [
+    ("first repeat", |seen| seen.asks_again(0)),
+    ("second repeat", |seen| seen.asks_again(1)),
+    ("gap fill, first repeat", |seen| {
+        seen.asks_again(0) && seen.fills_first()
+    }),
+    ("gap fill, second repeat", |seen| {
+        seen.asks_again(1) && seen.fills_first()
+    }),
+    ("37 and a Logout", |seen| seen.is_spent() && !seen.is_last()),
+    ("37 before 22, no Logout", |seen| {
+        seen.is_spent() && seen.is_last()
+    }),
+    ("37 and no gap fill", |seen| {
+        seen.is_spent() && seen.is_of(types::RESEND_REQUEST)
+    }),
+    ("34 before 37", |seen| {
+        seen.ahead(1, session::BAD_RESEND) && seen.before.repeats == MOST_REPEATS
+    }),
+    ("34 before 37 and 22", |seen| {
+        seen.ahead(1, session::BAD_RESEND) && seen.before.repeats == MOST_REPEATS && seen.is_last()
+    }),
+    ("34 before 22", |seen| {
+        seen.ahead(1, session::BAD_RESEND) && seen.before.repeats < MOST_REPEATS && seen.is_last()
+    }),
+    ("22 for the first repeat", |seen| {
+        seen.ahead(1, session::EXHAUSTED) && seen.before.repeats == 0
+    }),
+    ("22 for the second repeat", |seen| {
+        seen.ahead(1, session::EXHAUSTED) && seen.before.repeats == 1
+    }),
+    ("22 and no gap fill", |seen| {
+        seen.ahead(1, session::EXHAUSTED) && seen.is_of(types::RESEND_REQUEST)
+    }),
+    ("PossDup 0, count 0", |seen| seen.is_quiet(0)),
+    ("PossDup 0, count 1", |seen| seen.is_quiet(1)),
+    ("PossDup 0, count 2", |seen| seen.is_quiet(2)),
+    ("PossDup 0, no number left", |seen| {
+        seen.is_quiet(MOST_REPEATS) && seen.is_last()
+    }),
+    ("count kept over a spoiled copy", |seen| {
+        seen.keeps() && seen.answer.code == wire::BAD_SUM
+    }),
+    ("count kept over a lower number", |seen| {
+        let is_lower = |head: Head| head.number < seen.before.e;
+        seen.keeps() && seen.head.map_or(false, is_lower)
+    }),
+    ("count kept over a reset to E", |seen| {
+        // A gap fill ahead of E with PossDup 1 would ask again or stop.
+        seen.keeps() && seen.ahead(1, 0) && seen.is_of(types::SEQUENCE_RESET)
+    }),
+    ("count cleared, M stands", |seen| {
+        seen.clears() && seen.after.m != 0
+    }),
+    ("count cleared with M", |seen| {
+        seen.clears() && seen.after.m == 0
+    }),
+    ("first repeat afresh", |seen| {
+        seen.asks_again(0) && seen.afresh
+    }),
+    ("second repeat afresh", |seen| {
+        seen.asks_again(1) && seen.afresh
+    }),
+    ("37 afresh", |seen| seen.is_spent() && seen.afresh),
+];
+
+/// How often each situation was met.
+type Situations = [u64; SITUATIONS.len()];
+
+fn met_of(situations: &Situations) -> String {
+    let all = SITUATIONS.iter().zip(situations);
+    let all: Vec<String> = all
+        .map(|((name, _), times)| format!("{} ({})", name, times))
+        .collect();
+    all.join(", ")
+}
+
+fn missed(situations: &Situations) -> bool {
+    situations.contains(&0)
+}
+
+/// Where the counts of single steps stand, and those of many messages.
+const SINGLES: usize = 0;
+const MANY: usize = 1;
+
+/// The twin's session, led over a day to see what the day meets.
+struct Watch {
+    session: session::Session,
+    afresh: bool,
+}
+
+impl Watch {
+    fn new(session: session::Session) -> Watch {
+        Watch {
+            session,
+            afresh: false,
+        }
+    }
+
+    fn event(&mut self, event: &Event, met: &mut Situations) {
+        match event {
+            Event::Connect(password) => {
+                let _ = self.session.connect(password);
+            }
+            Event::Drop => self.session.drop(),
+            Event::Lend(bytes) => {
+                self.step(bytes, met);
+            }
+        }
+    }
+
+    /// One step; the answer's code.
+    fn step(&mut self, bytes: &[u8], met: &mut Situations) -> u32 {
+        let before = self.session.clone();
+        let answer = self.session.step(bytes);
+        let seen = Seen {
+            head: reader::read(bytes).ok(),
+            answer,
+            after: self.session.clone(),
+            afresh: self.afresh,
+            before,
+        };
+        for (times, (_, is_met)) in met.iter_mut().zip(SITUATIONS) {
+            *times += u64::from(is_met(&seen));
+        }
+        // A step that moves E may let M stand: the count begins anew under it.
+        self.afresh = self.session.m != 0 && (self.afresh || seen.clears());
+        answer.code
+    }
+
+    /// What a call over these bytes does, with enough room.
+    fn slice(&mut self, bytes: &[u8], met: &mut Situations) {
+        let mut used = 0;
+        while self.session.phase != Phase::Down {
+            let rest = &bytes[used..];
+            let code = self.step(rest, met);
+            if code == wire::SHORT {
+                return;
+            }
+            used += session::used(code, rest);
+        }
+    }
+}
+
+/// E of the sessions that are tried with every message, and how far M lies from it.
+const HOLES_AT: [u32; 6] = [1, 2, 7, LAST - 2, LAST - 1, LAST];
+const TO_AHEAD: [u32; 3] = [0, 1, 3];
+
+/// Each message that the rules tell apart, for a session with this E and O: with
+/// every number on both sides of E and M and each PossDup.
+fn every_message(rng: &mut Rng, session: &session::Session) -> Vec<Vec<u8>> {
+    let session::Session { e, o, m, .. } = *session;
+    let mut numbers = vec![
+        1,
+        e.saturating_sub(1).max(1),
+        e,
+        e.saturating_add(1),
+        m.max(1),
+        m.saturating_add(1),
+        LAST,
+    ];
+    numbers.sort_unstable();
+    numbers.dedup();
+    let mut all = Vec::new();
+    for number in numbers {
+        let mut sorts = vec![
+            Sent::ResendRequest { start: 1, end: 0 },
+            Sent::ResendRequest { start: 1, end: 1 },
+            Sent::ResendRequest {
+                start: o - 1,
+                end: o,
+            },
+            Sent::ResendRequest { start: 0, end: 0 },
+            Sent::ResendRequest { start: o, end: 0 },
+            Sent::ResendRequest { start: 2, end: 1 },
+            Sent::GapFill { new: 0 },
+            Sent::GapFill { new: number },
+            Sent::GapFill {
+                new: number.saturating_add(1),
+            },
+            Sent::GapFill { new: LAST },
+            Sent::Reset { new: e - 1 },
+            Sent::Reset { new: e },
+            Sent::Reset {
+                new: e.saturating_add(1),
+            },
+            Sent::Reset {
+                new: m.saturating_add(1),
+            },
+        ];
+        let free = (0..=types::LAST).filter(|&message_type| {
+            message_type != types::RESEND_REQUEST && message_type != types::SEQUENCE_RESET
+        });
+        sorts.extend(free.map(Sent::Of));
+        for what in sorts {
+            for poss_dup in [0, 1] {
+                all.push(make::sent(rng, &session.comp_id, number, poss_dup, what));
+            }
+        }
+    }
+    all
+}
+
+/// Every message to sessions with every count, E and M on all sides of each other
+/// and O at its least, in between and at the end of our numbers. Spoiled copies of
+/// some of them, a drop and a Connect, which is refused, come beside.
+fn every_hole(tally: &mut Tally, rng: &mut Rng) {
+    for e in HOLES_AT {
+        for to_ahead in TO_AHEAD {
+            for repeats in 0..=MOST_REPEATS {
+                for o in [ASKED_ONCE + repeats, 9, LAST - 2, LAST - 1, LAST] {
+                    let session = session::Session {
+                        phase: Phase::Live,
+                        comp_id: b"RECORDER01".to_vec(),
+                        e,
+                        o,
+                        m: e.saturating_add(to_ahead).max(2),
+                        repeats,
+                    };
+                    hold_hole(tally, rng, &session);
+                }
+            }
+        }
+    }
+}
+
+fn hold_hole(tally: &mut Tally, rng: &mut Rng, session: &session::Session) {
+    let s = struct_of(session);
+    hold_drop(tally, s);
+    hold_connect(tally, s, b"");
+    for bytes in every_message(rng, session) {
+        hold_step(tally, s, &bytes);
+        if rng.chance(10) {
+            hold_step(tally, s, &make::spoil_sum(rng, bytes));
+        }
+    }
+}
+
+/// A slice that asks, asks again behind a gap fill, takes a message so that the
+/// count begins anew, asks again twice and stops with 37: into every room, so that
+/// each of its messages to send is the one that finds no slot.
+fn every_hole_room(tally: &mut Tally, rng: &mut Rng) {
+    let [_, _, live] = small_sessions();
+    let session = session_of(&live).expect("a session of some day");
+    let e = session.e;
+    let business = Sent::Of(types::EXECUTION_REPORT);
+    let asked = Sent::ResendRequest { start: 1, end: 0 };
+    let bytes: Vec<u8> = [
+        (e + 2, 0, business),
+        (e + 3, 1, asked),
+        (e, 1, business),
+        (e + 3, 1, asked),
+        (e + 4, 1, business),
+        (e + 5, 1, business),
+    ]
+    .iter()
+    .flat_map(|&(number, poss_dup, what)| make::sent(rng, &session.comp_id, number, poss_dup, what))
+    .collect();
+    for rows in 0..3 * A_ROW {
+        for sends in 0..9 * A_SEND {
+            hold_many(tally, live, &bytes, Rooms { rows, sends });
+        }
+    }
+}
+
+/// A Live session in whose answer there is a hole. Our numbers are often nearly
+/// used up.
+fn session_with_hole(rng: &mut Rng) -> session::Session {
+    let mut session = session::Session {
+        phase: Phase::Live,
+        comp_id: make::comp_id(rng),
+        e: rng.any_u32().clamp(1, LAST - 1),
+        o: rng.any_u32().max(ASKED_ONCE),
+        m: 0,
+        repeats: 0,
+    };
+    if rng.chance(60) {
+        session.o = LAST - rng.below(6) as u32;
+    }
+    open_hole(rng, &mut session);
+    session
+}
+
+/// A day with holes, event by event.
+fn hole_day(tally: &mut Tally, rng: &mut Rng) {
+    let start = make::hole_start(rng);
+    let mut s = hold_saved(tally, &start.comp_id, start.e, start.o);
+    let mut watch = Watch::new(session_of(&s).expect("a start is a good state"));
+    for event in make::hole_events(rng, &start, 60) {
+        watch.event(&event, &mut tally.holes[SINGLES]);
+        s = hold_event(tally, rng, s, &event);
+        if rng.chance(5) {
+            // Calls beside the day: what they give is not kept.
+            hold_connect(tally, s, &odd_password(rng));
+            hold_drop(tally, s);
+        }
+    }
+}
+
+/// What a bad line brings, many messages in one call. The session goes on from
+/// slice to slice.
+fn hole_slices(tally: &mut Tally, rng: &mut Rng) {
+    let mut watch = Watch::new(session_with_hole(rng));
+    for _ in 0..3 {
+        let count = 1 + rng.index(8);
+        let bytes = make::hole_slice(rng, &watch.session, count);
+        let s = struct_of(&watch.session);
+        hold_slice(tally, rng, s, &bytes, 2);
+        watch.slice(&bytes, &mut tally.holes[MANY]);
+        if watch.session.phase == Phase::Down {
+            return;
+        }
+    }
+}
+
+/// So many days are always held, be `--count` never so small: they are enough to
+/// meet every situation.
+const LEAST_DAYS: u64 = 1_500;
+/// Slices have few comparisons beside a day.
+const SLICES_A_DAY: usize = 5;
+
+fn holes(tally: &mut Tally, rng: &mut Rng, until: u64) {
+    every_hole(tally, rng);
+    every_hole_room(tally, rng);
+    let until = tally.count() + until;
+    let mut days = 0;
+    while days < LEAST_DAYS || tally.count() < until {
+        hole_day(tally, rng);
+        for _ in 0..SLICES_A_DAY {
+            hole_slices(tally, rng);
+        }
+        days += 1;
     }
 }
 
@@ -1865,7 +2397,11 @@ fn sheet(rng: &mut Rng) -> Vec<u8> {
         1 => 300 + rng.index(300),
         _ => rng.index(40),
     };
-    let mut text = make::sheet(rng, count);
+    let mut text = if rng.chance(30) {
+        make::hole_sheet(rng, count)
+    } else {
+        make::sheet(rng, count)
+    };
     match rng.below(12) {
         0 if !text.is_empty() => {
             let at = rng.index(text.len());
@@ -1914,7 +2450,21 @@ kind=gapfill n=3 dup=1 new=5
 kind=business n=5 dup=1 new=0
 kind=business n=2 dup=1 new=0
 ";
-    let mut given = vec![long_sheet(), example.to_vec()];
+    // The first copy of the answer is spoiled, so that the lines go on behind it:
+    // two repeats, the hole filled, and at the next one two repeats and 37.
+    let with_holes = b"kind=logon n=1 dup=0 new=0
+kind=business n=4 dup=0 new=0
+kind=business n=3 dup=1 new=0
+kind=business n=5 dup=0 new=0
+kind=gapfill n=4 dup=1 new=9
+kind=business n=2 dup=1 new=0
+kind=business n=4 dup=1 new=0
+kind=reset n=9 dup=0 new=3
+kind=business n=5 dup=1 new=0
+kind=business n=4 dup=1 new=0
+kind=business n=3 dup=1 new=0
+";
+    let mut given = vec![long_sheet(), with_holes.to_vec(), example.to_vec()];
     for _ in 0..count {
         let text = given.pop().unwrap_or_else(|| sheet(rng));
         let twin = String::from_utf8_lossy(&daysheet::daysheet(&text)).into_owned();
@@ -1935,7 +2485,7 @@ struct Options {
 fn options() -> Options {
     let mut options = Options {
         seed: 1,
-        count: 2_300_000,
+        count: 2_600_000,
         sheets: 240,
         daysheet: None,
     };
@@ -1976,6 +2526,7 @@ fn main() {
         sums,
         decimals,
         many_messages,
+        holes,
         texts,
         versions,
     ];

@@ -73,6 +73,11 @@ fn live() -> (proved::Session, plain::Session) {
     (proved::step(waiting, &logon).session, plain)
 }
 
+/// E, O, M and the repeats of a session.
+fn numbers(s: proved::Session) -> (u32, u32, u32, u32) {
+    (s.expected, s.own, s.ahead, s.repeats)
+}
+
 /// A Live session a side, which takes the reports in turn.
 fn step(reports: &[Vec<u8>]) -> Counts {
     let (mut a, mut b) = live();
@@ -90,7 +95,7 @@ fn step(reports: &[Vec<u8>]) -> Counts {
         let row = told.row;
         assert_eq!((told.code, row.sort as u32, row.first, row.last), business);
         assert_eq!((told.sends, told.besides), ([Send::None; 2], 0));
-        assert_eq!((a.expected, a.own, a.ahead), (b.e, b.o, b.m));
+        assert_eq!(numbers(a), (b.e, b.o, b.m, b.repeats));
     }
     counts
 }
@@ -127,7 +132,7 @@ fn many(reports: &[Vec<u8>]) -> Counts {
         assert_eq!(said, proved::Done::of(a, told));
         assert_eq!(told, taken_whole(&bytes));
         assert_eq!((rows, sends), (other_rows, other_sends));
-        assert_eq!((a.expected, a.own, a.ahead), (b.e, b.o, b.m));
+        assert_eq!(numbers(a), (b.e, b.o, b.m, b.repeats));
         assert_eq!(a.expected, next);
     }
     counts
