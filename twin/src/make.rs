@@ -812,7 +812,7 @@ fn one_arrival(rng: &mut Rng, session: &Session) -> Vec<Vec<u8>> {
 }
 
 /// Does to a session what the event says.
-fn lead(session: &mut Session, event: &Event) {
+pub fn lead(session: &mut Session, event: &Event) {
     match event {
         Event::Connect(password) => {
             let _ = session.connect(password);
@@ -1117,6 +1117,24 @@ pub fn list(rng: &mut Rng, most: usize) -> Vec<u8> {
     }
     list
 }
+
+/// Lines for daysheet, of an answer whose first copy is spoiled. 4 opens the hole
+/// at 2. Ahead of E and with dup=1 the same is asked again, by business and gap
+/// fills alike; with dup=0 it is not. 2 fills the hole, so two repeats are left for
+/// 3; a reset to 3 and a lower number leave the count. The third stops.
+pub const SHEET_WITH_HOLES: &[u8] = b"kind=logon n=1 dup=0 new=0
+kind=business n=4 dup=0 new=0
+kind=business n=3 dup=1 new=0
+kind=business n=5 dup=0 new=0
+kind=gapfill n=4 dup=1 new=9
+kind=business n=2 dup=1 new=0
+kind=business n=4 dup=1 new=0
+kind=reset n=9 dup=0 new=3
+kind=business n=2 dup=1 new=0
+kind=business n=5 dup=1 new=0
+kind=business n=4 dup=1 new=0
+kind=business n=3 dup=1 new=0
+";
 
 /// Lines for daysheet, good ones, of a day over a bad line: many lie ahead with
 /// PossDup 1, so that the same number is asked for again and again.

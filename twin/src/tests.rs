@@ -267,24 +267,8 @@ row=none first=0 last=0 next=7 out=none
 /// Document 02, item 3: more resends, and in the end a logout.
 #[test]
 fn daysheet_with_holes() {
-    // 4 opens the hole at 2. Ahead of E and with dup=1 the same is asked again, by
-    // business and gap fills alike; with dup=0 it is not. 2 fills the hole, so two
-    // repeats are left for 3; a reset to 3 and a lower number leave the count.
-    let text = b"kind=logon n=1 dup=0 new=0
-kind=business n=4 dup=0 new=0
-kind=business n=3 dup=1 new=0
-kind=business n=5 dup=0 new=0
-kind=gapfill n=4 dup=1 new=9
-kind=business n=2 dup=1 new=0
-kind=business n=4 dup=1 new=0
-kind=reset n=9 dup=0 new=3
-kind=business n=2 dup=1 new=0
-kind=business n=5 dup=1 new=0
-kind=business n=4 dup=1 new=0
-kind=business n=3 dup=1 new=0
-";
     assert_eq!(
-        String::from_utf8(daysheet(text)).unwrap(),
+        String::from_utf8(daysheet(make::SHEET_WITH_HOLES)).unwrap(),
         "sheet=1
 row=session first=1 last=1 next=2 out=none
 row=none first=0 last=0 next=2 out=resend
@@ -1908,21 +1892,18 @@ fn asks(number: u32, start: u32) -> Answer {
     }
 }
 
+/// The plain side's session is the twin's, the Comp ID aside.
+fn is_same(fast: &plain::Session, session: &Session) {
+    assert_eq!((fast.phase, fast.e, fast.o, fast.m), state(session));
+    assert_eq!(fast.repeats, session.repeats);
+}
+
 /// The plain side must do the same in every test of this part.
 fn stepped(session: &mut Session, bytes: &[u8]) -> Answer {
     let mut fast = plain::Session::of(session);
     let answer = session.step(bytes);
     assert_eq!(fast.step(bytes), answer);
-    assert_eq!(
-        (fast.phase, fast.e, fast.o, fast.m, fast.repeats),
-        (
-            session.phase,
-            session.e,
-            session.o,
-            session.m,
-            session.repeats
-        )
-    );
+    is_same(&fast, session);
     answer
 }
 
@@ -2330,7 +2311,7 @@ fn hole_days() {
                     let mut fast = plain::Session::of(&session);
                     let answer = session.connect(&password);
                     assert_eq!(fast.connect(&password), answer);
-                    assert_eq!((fast.o, fast.repeats), (session.o, session.repeats));
+                    is_same(&fast, &session);
                     assert!(answer.is_ok() || session == before);
                 }
                 Event::Drop => session.drop(),
@@ -2485,8 +2466,7 @@ fn many(session: &mut Session, bytes: &[u8], row_room: usize, send_room: usize) 
     let told = other.steps(bytes, &mut other_rows, &mut other_sends);
     assert_eq!(told, done, "{:?} {:?}", before, bytes);
     assert_eq!((&other_rows, &other_sends), (&rows, &sends));
-    assert_eq!((other.phase, other.e, other.o, other.m), state(session));
-    assert_eq!(other.repeats, session.repeats);
+    is_same(&other, session);
     Many { done, rows, sends }
 }
 
@@ -3187,8 +3167,7 @@ fn plain_steps_as_session() {
                     }
                 }
             }
-            assert_eq!((fast.phase, fast.e, fast.o, fast.m), state(&slow));
-            assert_eq!(fast.repeats, slow.repeats);
+            is_same(&fast, &slow);
             assert!(slow.phase != Phase::Down || slow.m == 0);
         }
     }

@@ -20,7 +20,7 @@ use Rattle.session.specs.declared.state.Halt.the-variants as halt
 use Rattle.session.specs.declared.state.State.{State}
 use Rattle.session.specs.declared.state.State.the-variants.{Down, Waiting, Live}
 use Rattle.session.specs.declared.state.Session.{Session}
-use Rattle.session.specs.State.{last, repeatsAt, moved}
+use Rattle.session.specs.State.{last, leastAsked, repeatsAt, moved}
 use Rattle.session.specs.Day.{notMade, day, fresh, saved, notConnected, connectIn, connect, drop, step}
 use Rattle.session.proofs.Effect.{none-ahead, repeats-none, Asks, as-before, anew}
 use Rattle.session.specs.Course.{Follows, stepped, connected, dropped, Reached, begun, resumed, on, Standing}
@@ -35,7 +35,7 @@ down-standing ours e o h l =
     none-standing (record { state = Down; ours = ours; expected = e; own = o; ahead = 0; repeats = 0 }) h l refl refl (λ u. absurd (u refl))
 
 -- from a session that is not Down
-asks-standing : {s t : Session} → Standing s → (s .state ≡ Down → ⊥) → Asks s t → 1 ≤ t .ahead → (2 ≤ t .ahead) × (t .repeats + 3 ≤ t .own)
+asks-standing : {s t : Session} → Standing s → (s .state ≡ Down → ⊥) → Asks s t → 1 ≤ t .ahead → (2 ≤ t .ahead) × (t .repeats + leastAsked ≤ t .own)
 asks-standing h u (as-before e r) l =
     let m = h .asked (omega arith) in
     (omega arith, omega arith)

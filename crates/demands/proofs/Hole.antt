@@ -36,16 +36,15 @@ use Rattle.session.specs.declared.state.Halt.the-variants.{StopResend, StopRepe
 use Rattle.session.specs.declared.state.Send.{Send}
 use Rattle.session.specs.declared.state.Send.the-variants as send
 use Rattle.session.specs.declared.state.Session.{Session}
-use Rattle.session.specs.declared.state.State.{State}
-use Rattle.session.specs.declared.state.State.the-variants.{Down, Waiting, Live}
+use Rattle.session.specs.declared.state.State.the-variants.{Down, Live}
 use Rattle.session.specs.declared.state.Stepped.{Stepped}
-use Rattle.session.specs.Course.{Ahead, Reached, stepped}
+use Rattle.session.specs.Course.{Ahead, Reached, on as follows, stepped, connected, dropped}
 use Rattle.session.specs.Day.{step}
 use Rattle.session.specs.Rules.{isBadRange, fillEnd, slots, request, again, ask, resendAhead, higher, numbered, live}
 use Rattle.session.specs.State.{last, mostRepeats, sendNone, told, leave, stop, spent}
 use Rattle.session.proofs.Effect.{repeats-stay, Stands, gone, rises, same, step-effect}
-use Rattle.session.proofs.SessionLaws.{expected-rises, all-sound, down-nothing, spoiled-nothing}
-use Rattle.demands.specs.Gateway.{after, afterAll}
+use Rattle.session.proofs.SessionLaws.{expected-rises, all-sound, standing-live, down-nothing, spoiled-nothing}
+use Rattle.demands.specs.Gateway.{Event, lends, drops, connects, after, afterAll}
 use Rattle.demands.specs.Hole as hole
 use Rattle.demands.specs.Hole.{isNumbered, Past, askedAgain, ByCount, third, unnumbered, Answers, bad, filled, alone, Many, none, other, past, GoneOn, down, on}
 use Rattle.demands.specs.Run.{lendAll}
@@ -63,15 +62,6 @@ isRequest (Logon next) = false
 isRequest Logout = false
 isRequest Lookup = false
 isRequest Business = false
-
--- M stands only while the session is Live
-standing-live : (s : Session) → Ahead s → 1 ≤ s .ahead → s .state ≡ Live
-standing-live s h l = go (s .state) refl
-  where
-    go : (p : State) → s .state ≡ p → p ≡ Live
-    go Down e = absurd (omega (arith, h .down e))
-    go Waiting e = absurd (omega (arith, h .waiting e))
-    go Live e = refl
 
 module _ (s : Session) (m : 1 ≤ s .ahead) where
   again-counts : (fill : Send) → ByCount s fill (again s fill)
@@ -208,6 +198,14 @@ ends (other {b = b} {bs = bs} w) s i j h m l =
 ends {e = e} (past {b = b} {bs = bs} p w) s i j h m l =
     let q : Past (s .ours) (s .expected) b = rw (i, j) p in
     next-ends bs (past-next s b h m (past-answered s b h m q)) j (λ o q a n r. ends w (step s b .session) (o ∙ i) (q ∙ j) a n (omega arith))
+
+-- events lead from a session of a day to a session of a day
+pub reached-all : {s : Session} (es : List Event) → Reached s → Reached (afterAll s es)
+unfolding afterAll after
+reached-all [] g = g
+reached-all (lends b ∷ es) g = reached-all es (follows g (stepped b))
+reached-all (drops ∷ es) g = reached-all es (follows g dropped)
+reached-all (connects password ∷ es) g = reached-all es (follows g (connected password))
 
 -- three messages past the hole, whatever stands between them: E has moved or the session is Down
 pub hole-ends : {s : Session} → Reached s → 1 ≤ s .ahead → (bs : List (List ℕ)) → Many (s .ours) (s .expected) (mostRepeats + 1) bs

@@ -42,6 +42,7 @@ use Rattle.session.specs.declared.state.State.the-variants.{Down, Live}
 use Rattle.session.specs.Arrival.{upTo, isYes, sequenceReset as sequenceResetContent, contentOf, sameBytes, isOurs, messageIn, arrivalBy, arrivalOf}
 use Rattle.session.specs.State.{told, repeatsAt, unmoved, leave, stop, aheadAt, take}
 use Rattle.session.specs.Rules.{forUs, fillTo, logon as logonRule, waiting, slots, request, again, ask, higher, gapFill, equal, numbered, live, lower, ruledIn, ruled}
+use Rattle.session.specs.Course.{Reached, begun}
 use Rattle.session.specs.Day.{stepBy, day, fresh, connectIn, connect, drop, refused as refusedRule, arrived, stepIn, step}
 use Rattle.session.specs.declared.arrival.Content.the-variants.{GapFill, Business}
 use Rattle.demands.specs.Content.{Said, Content, fieldsAt, contentIn, saidBy, said, isBusiness}
@@ -67,9 +68,10 @@ use Rattle.demands.specs.Gateway.{
   afterAll,
   handedAll,
 }
-use Rattle.demands.specs.Hole.{isNumbered, Past, Many, none, other, past}
+use Rattle.demands.specs.Hole.{isNumbered, Past, Answers, Many, none, other, past, GoneOn}
 use Rattle.demands.specs.Run.{Run, done, business, gapFill as jumps, lendAll}
 use Rattle.demands.specs.Whole.{Whole}
+use Rattle.demands.proofs.Hole.{reached-all, hole-answered, hole-ends}
 use Rattle.demands.proofs.Whole.{fair-both, both-halves}
 use Rattle.demands.proofs.WorkedDay.{
   ours,
@@ -201,15 +203,20 @@ ninth k a b =
     let p : Published publishedOn 9 (heartbeatSaid 9) = record { counted = omega arith; within = omega arith; there = refl; numbered = refl } in
     subst (SessionNumber publishedOn) e (record { message = heartbeatSaid 9; published = p; session = refl })
 
+-- the session as the day leaves it: from 8 on it has asked, and M stands at 10
+abbrev asking : Session
+asking = record { state = Live; ours = fixedBytes 12 ours; expected = 8; own = 5; ahead = 10; repeats = 0 }
+
 -- all of it is fair; the day leaves M standing at 10, a number ahead; the run is unbroken from there; and the list's business is computed, the report
 -- among it. In the answer with a hole 8 is refused for its checksum and three are past it; the session has asked twice more, with 5 and 6, and stopped
 -- with a Logout, 7
 pub record WorkedOn : Type 0 where
   pub fair : AllFair publishedOn dayBefore
-  pub standing : afterAll (fresh ours .session) dayBefore ≡ record { state = Live; ours = fixedBytes 12 ours; expected = 8; own = 5; ahead = 10; repeats = 0 }
+  pub standing : afterAll (fresh ours .session) dayBefore ≡ asking
   pub run : Run (fixedBytes 12 ours) 8 answerRun 11
   pub copies : AllFair publishedOn (lendAll answerRun)
   pub spoiled : readOf (reportBytes 8 1 0xC2A22CAC) ≡ Refused (BadSum 179)
+  pub nine : Past (fixedBytes 12 ours) 8 (fillBytes 9 10 0x299436A6)
   pub hole : Many (fixedBytes 12 ours) 8 3 holeRun
   pub stopped : afterAll (fresh ours .session) (dayBefore ++ lendAll holeRun)
       ≡ record { state = Down; ours = fixedBytes 12 ours; expected = 8; own = 8; ahead = 0; repeats = 0 }
@@ -230,49 +237,50 @@ unfolding bits numberOfBits messageBits polynomial differ less divided complemen
     numberOf sameBytes isOurs messageIn arrivalBy arrivalOf unmoved aheadAt take fillTo logonRule waiting told repeatsAt slots request again ask higher gapFill equal numbered live lower stop leave forUs ruledIn ruled isNumbered
     day fresh connectIn connect drop refusedRule arrived stepIn stepBy step after handedBy handed afterAll handedAll
     published later workedDay aheadDay answerRun holeRun lendAll below businessOf isBusiness heartbeatSaid
-worked-on = record {
-  fair =
-      fair-both (all-more published later (worked .fair))
-      (more (true-copy (businessSaid 10 15) refl refl (omega arith) (omega arith) (λ e. omega arith)) none);
-  standing = refl;
-  run =
-      business {n = 179} {h = record { messagetype = 10; number = 8; possdup = 1; possresend = 0 }} refl refl refl (omega arith) refl (
-      jumps {n = 63} {new = 10} {h = record { messagetype = 4; number = 9; possdup = 1; possresend = 0 }} refl refl refl (omega arith) refl (omega arith) (
-      business {n = 61} {h = record { messagetype = 9; number = 10; possdup = 1; possresend = 0 }} refl refl refl (omega arith) refl
-      done));
-  copies =
-      more (true-copy (reportSaid 8) refl refl (omega arith) (omega arith) (λ e. omega arith)) (
-      more (fills {h = record { messagetype = 4; number = 9; possdup = 1; possresend = 0 }} {n = 63} {new = 10} refl refl ninth) (
-      more (true-copy (businessSaid 10 15) refl refl (omega arith) (omega arith) (λ e. omega arith))
-      none));
-  spoiled = refl;
-  hole =
-      let nine : Past (fixedBytes 12 ours) 8 (fillBytes 9 10 0x299436A6) = record {
-        header = record { messagetype = 4; number = 9; possdup = 1; possresend = 0 };
-        length = 63;
-        read = refl;
-        for-us = refl;
-        possdup = refl;
-        ahead = omega arith;
-        content = GapFill 10;
-        told = refl;
-        numbered = refl;
-      } in
-      let ten : Past (fixedBytes 12 ours) 8 (businessBytes 10 1 15 0x39A38C1A) = record {
-        header = record { messagetype = 9; number = 10; possdup = 1; possresend = 0 };
-        length = 61;
-        read = refl;
-        for-us = refl;
-        possdup = refl;
-        ahead = omega arith;
-        content = Business;
-        told = refl;
-        numbered = refl;
-      } in
-      other (past nine (past ten (other (past nine none))));
-  stopped = refl;
-  listed = refl;
-}
+worked-on =
+    let ninth-past : Past (fixedBytes 12 ours) 8 (fillBytes 9 10 0x299436A6) = record {
+      header = record { messagetype = 4; number = 9; possdup = 1; possresend = 0 };
+      length = 63;
+      read = refl;
+      for-us = refl;
+      possdup = refl;
+      ahead = omega arith;
+      content = GapFill 10;
+      told = refl;
+      numbered = refl;
+    } in
+    let tenth-past : Past (fixedBytes 12 ours) 8 (businessBytes 10 1 15 0x39A38C1A) = record {
+      header = record { messagetype = 9; number = 10; possdup = 1; possresend = 0 };
+      length = 61;
+      read = refl;
+      for-us = refl;
+      possdup = refl;
+      ahead = omega arith;
+      content = Business;
+      told = refl;
+      numbered = refl;
+    } in
+    record {
+      fair =
+          fair-both (all-more published later (worked .fair))
+          (more (true-copy (businessSaid 10 15) refl refl (omega arith) (omega arith) (λ e. omega arith)) none);
+      standing = refl;
+      run =
+          business {n = 179} {h = record { messagetype = 10; number = 8; possdup = 1; possresend = 0 }} refl refl refl (omega arith) refl (
+          jumps {n = 63} {new = 10} {h = record { messagetype = 4; number = 9; possdup = 1; possresend = 0 }} refl refl refl (omega arith) refl (omega arith) (
+          business {n = 61} {h = record { messagetype = 9; number = 10; possdup = 1; possresend = 0 }} refl refl refl (omega arith) refl
+          done));
+      copies =
+          more (true-copy (reportSaid 8) refl refl (omega arith) (omega arith) (λ e. omega arith)) (
+          more (fills {h = record { messagetype = 4; number = 9; possdup = 1; possresend = 0 }} {n = 63} {new = 10} refl refl ninth) (
+          more (true-copy (businessSaid 10 15) refl refl (omega arith) (omega arith) (λ e. omega arith))
+          none));
+      spoiled = refl;
+      nine = ninth-past;
+      hole = other (past ninth-past (past tenth-past (other (past ninth-past none))));
+      stopped = refl;
+      listed = refl;
+    }
 
 -- so that over the day and the run every business message of the list was handed up, once each and in order
 pub worked-on-whole : Whole publishedOn [] (fresh ours .session) dayBefore answerRun 11
@@ -280,3 +288,15 @@ worked-on-whole =
     let e = worked-on .standing in
     both-halves publishedOn ours dayBefore answerRun 11 (worked-on .fair) (ap (λ (x : Session). x .state) e)
     (subst (λ (x : Session). Run (x .ours) (x .expected) answerRun 11) (sym e) (worked-on .run)) (worked-on .copies)
+
+-- and of the answer with a hole the law of document 02, item 3, holds: the first message past the hole is answered, and after three the session has gone on
+asked : Reached asking
+asked = subst Reached (worked-on .standing) (reached-all dayBefore (begun ours))
+
+pub worked-hole-answered : Answers asking (worked-on .nine .content) (step (step asking (reportBytes 8 1 0xC2A22CAC) .session) (fillBytes 9 10 0x299436A6))
+unfolding numberOf
+worked-hole-answered =
+    hole-answered asked (omega arith) (reportBytes 8 1 0xC2A22CAC) (fillBytes 9 10 0x299436A6) (BadSum 179) (worked-on .spoiled) refl (worked-on .nine)
+
+pub worked-hole-ends : GoneOn 8 (afterAll asking (lendAll holeRun))
+worked-hole-ends = hole-ends asked (omega arith) holeRun (worked-on .hole)

@@ -13,7 +13,7 @@ use Rattle.session.specs.declared.state.Session.{Session}
 use Rattle.session.specs.declared.state.State.the-variants.{Down, Waiting}
 use Rattle.session.specs.declared.state.Stepped.{Stepped}
 use Rattle.session.specs.Day.{fresh, saved, connect, drop, step}
-use Rattle.session.specs.State.{last, mostRepeats, rowNone, sortNumber, lastOf}
+use Rattle.session.specs.State.{last, mostRepeats, leastAsked, rowNone, sortNumber, lastOf}
 
 -- E after a row: one past its last number, which of a filled or reset row is New - 1; without a row it stays
 unfoldable pub expectedBy : ℕ → Row → ℕ
@@ -52,7 +52,7 @@ pub record Standing (s : Session) : Type 0 where
   pub own : 1 ≤ s .own
   pub ahead : Ahead s
   pub up : (s .state ≡ Down → ⊥) → 2 ≤ s .own
-  pub asked : 1 ≤ s .ahead → (2 ≤ s .ahead) × (s .repeats + 3 ≤ s .own)
+  pub asked : 1 ≤ s .ahead → (2 ≤ s .ahead) × (s .repeats + leastAsked ≤ s .own)
 
 -- the session is as it was, nothing is sent, there is no row: the code is all
 pub record Untouched (s : Session) (k : Code) (r : Stepped) : Type 0 where

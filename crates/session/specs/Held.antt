@@ -1,4 +1,4 @@
--- A session told in numbers (docs/DECISIONS.md, 27): which numbers some day has (document 01, "The session").
+-- A session told in numbers (docs/DECISIONS.md, 27 and 64): which numbers are taken in (document 01, "The session").
 use Prim.Native.Nat.{ℕ, _+_}
 use mathlib.Core.Bool.{Bool, true, false, cond, _&&_}
 use mathlib.Core.List.{List, [], _∷_}
@@ -14,7 +14,7 @@ use Rattle.session.specs.declared.state.Halt.the-variants.{NotASession}
 use Rattle.session.specs.declared.state.State.{State}
 use Rattle.session.specs.declared.state.State.the-variants.{Down, Waiting, Live}
 use Rattle.session.specs.Day.{notMade}
-use Rattle.session.specs.State.{mostRepeats}
+use Rattle.session.specs.State.{mostRepeats, leastAsked}
 
 -- the states' numbers, and back; a number above Live's is refused
 abbrev pub stateNumber : State → ℕ
@@ -38,13 +38,13 @@ unfoldable pub leastOwn : ℕ → ℕ
 leastOwn state = cond (eqb state (stateNumber Down)) 1 2
 
 -- M is 0, and the count with it; or the session is Live, M is not below E and above 1, since it was above an E of 1 or more, the count is at most 2,
--- and O is at least 3 more than the count, since the Resend Request and each repeat have used up a number too
+-- and O is 3 or more above the count, since each repeat has used up a number too
 unfoldable pub isAhead : ℕ → ℕ → ℕ → ℕ → ℕ → Bool
 isAhead state e o m repeats =
     cond (eqb m 0) (eqb repeats 0)
-    (eqb state (stateNumber Live) && leb 2 m && leb e m && leb repeats mostRepeats && leb (repeats + 3) o)
+    (eqb state (stateNumber Live) && leb 2 m && leb e m && leb repeats mostRepeats && leb (repeats + leastAsked) o)
 
--- whether some day has such a session, but for a count that no rule looks at (docs/DECISIONS.md, 64)
+-- whether these numbers are taken in: those that some day has, and besides them a count that no rule looks at (docs/DECISIONS.md, 64)
 unfoldable pub isHeld : ℕ → List ℕ → ℕ → ℕ → ℕ → ℕ → Bool
 isHeld state ours e o m repeats =
     leb state (stateNumber Live) && isPlainCompId ours && leb 1 e && leb (leastOwn state) o && isAhead state e o m repeats

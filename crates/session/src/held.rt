@@ -1,4 +1,4 @@
-// A session told in numbers, as it crosses to another language and back: taken in again only where some day has it.
+// A session told in numbers, as it crosses to another language and back: taken in again only where its numbers can be a day's.
 use crate::day::Made;
 use crate::day::not_made;
 use crate::state::Code;
@@ -18,6 +18,9 @@ pub const DOWN: u32 = 0;
 pub const WAITING: u32 = 1;
 
 pub const LIVE: u32 = 2;
+
+// The least O where a message was asked for: Connect's Logon and the Resend Request have used up 1 and 2.
+const LEAST_ASKED: u32 = 3;
 
 impl State {
     // The state's number.
@@ -92,11 +95,11 @@ fn is_ahead(state: u32, e: u32, o: u32, m: u32, repeats: u32) -> bool
     if MOST_REPEATS < repeats {
         return false;
     }
-    // Connect's Logon, the Resend Request and each repeat have used up a number.
-    repeats + 3 <= o
+    // Each repeat has used up a number more.
+    repeats + LEAST_ASKED <= o
 }
 
-// Whether some day has such a session.
+// Whether these numbers are taken in.
 fn is_held(state: u32, ours: &[u8; COMP_ID_BYTES], e: u32, o: u32, m: u32, repeats: u32) -> bool
     ensures { λ r. ⌜ r ≡ isHeld state (now (ours .entry)) e o m repeats ⌝ }
 {
@@ -116,7 +119,7 @@ fn is_held(state: u32, ours: &[u8; COMP_ID_BYTES], e: u32, o: u32, m: u32, repea
 }
 
 impl Session {
-    // The session of these numbers; 90 where no day has it.
+    // The session of these numbers, where they are taken in; else 90.
     pub fn held(state: u32, ours: [u8; COMP_ID_BYTES], e: u32, o: u32, m: u32, repeats: u32) -> Made
         ensures { λ r. ⌜ r ≡ held state ours e o m repeats ⌝ }
     {

@@ -1293,8 +1293,9 @@ const COUNTS: [u32; 11] = [
 /// count is among them.
 const SESSION_EDGES: [u32; 10] = [0, 1, 2, 3, 4, 5, 6, LAST - 2, LAST - 1, LAST];
 
-/// A session of every state and one more, with every count of repeats and E, O and
-/// M at every edge, to each call that takes a session.
+/// A session of every state and one more, with each of the counts of repeats and E,
+/// O and M at every edge, to Drop and a step, and to one of the other calls that
+/// take a session.
 fn every_count(tally: &mut Tally, rng: &mut Rng) {
     let us = small_sessions()[0];
     let session = session_of(&us).expect("a session of some day");
@@ -1919,8 +1920,12 @@ type Situation = (&'static str, fn(&Seen) -> bool);
 /// What days with holes must meet. One that is never met fails the run, so that
 /// none is lost without a word when the makers change.
 const SITUATIONS: [Situation; 25] = [
-    ("first repeat", |seen| seen.asks_again(0)),
-    ("second repeat", |seen| seen.asks_again(1)),
+    ("first repeat alone", |seen| {
+        seen.asks_again(0) && !seen.fills_first()
+    }),
+    ("second repeat alone", |seen| {
+        seen.asks_again(1) && !seen.fills_first()
+    }),
     ("gap fill, first repeat", |seen| {
         seen.asks_again(0) && seen.fills_first()
     }),
@@ -2018,14 +2023,10 @@ impl Watch {
     }
 
     fn event(&mut self, event: &Event, met: &mut Situations) {
-        match event {
-            Event::Connect(password) => {
-                let _ = self.session.connect(password);
-            }
-            Event::Drop => self.session.drop(),
-            Event::Lend(bytes) => {
-                self.step(bytes, met);
-            }
+        if let Event::Lend(bytes) = event {
+            self.step(bytes, met);
+        } else {
+            make::lead(&mut self.session, event);
         }
     }
 
@@ -2075,7 +2076,8 @@ fn every_message(rng: &mut Rng, session: &session::Session) -> Vec<Vec<u8>> {
         e.saturating_sub(1).max(1),
         e,
         e.saturating_add(1),
-        m.max(1),
+        m - 1,
+        m,
         m.saturating_add(1),
         LAST,
     ];
@@ -2450,21 +2452,8 @@ kind=gapfill n=3 dup=1 new=5
 kind=business n=5 dup=1 new=0
 kind=business n=2 dup=1 new=0
 ";
-    // The first copy of the answer is spoiled, so that the lines go on behind it:
-    // two repeats, the hole filled, and at the next one two repeats and 37.
-    let with_holes = b"kind=logon n=1 dup=0 new=0
-kind=business n=4 dup=0 new=0
-kind=business n=3 dup=1 new=0
-kind=business n=5 dup=0 new=0
-kind=gapfill n=4 dup=1 new=9
-kind=business n=2 dup=1 new=0
-kind=business n=4 dup=1 new=0
-kind=reset n=9 dup=0 new=3
-kind=business n=5 dup=1 new=0
-kind=business n=4 dup=1 new=0
-kind=business n=3 dup=1 new=0
-";
-    let mut given = vec![long_sheet(), with_holes.to_vec(), example.to_vec()];
+    let with_holes = make::SHEET_WITH_HOLES.to_vec();
+    let mut given = vec![long_sheet(), with_holes, example.to_vec()];
     for _ in 0..count {
         let text = given.pop().unwrap_or_else(|| sheet(rng));
         let twin = String::from_utf8_lossy(&daysheet::daysheet(&text)).into_owned();
