@@ -23,7 +23,7 @@ hexDigit n = cond (ltb n 10) (48 + n) (55 + n)
 abbrev pub firstLatin : ℕ
 firstLatin = 160
 
--- UTF-8 of a number from 128 to 255: two bytes, with its two high bits and its six low ones
+-- UTF-8 of a number from 128 to 255 (RFC 3629, section 3): two bytes, with its two high bits and its six low ones
 unfoldable pub twoBytes : ℕ → List ℕ
 twoBytes b = (192 + b / 64) ∷ (128 + b % 64) ∷ []
 
