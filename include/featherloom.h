@@ -31,7 +31,7 @@ extern "C" {
  * the two before any other call: where they differ, structs and functions may differ as well.
  */
 #define FEATHERLOOM_VERSION_MAJOR 4
-#define FEATHERLOOM_VERSION_MINOR 0
+#define FEATHERLOOM_VERSION_MINOR 1
 #define FEATHERLOOM_VERSION_PATCH 0
 #define FEATHERLOOM_VERSION \
     (10000 * FEATHERLOOM_VERSION_MAJOR + 100 * FEATHERLOOM_VERSION_MINOR + FEATHERLOOM_VERSION_PATCH)
@@ -69,7 +69,7 @@ enum {
     FEATHERLOOM_STOP_NEXT = 35,       /* stopped: a Next Expected of 0 or above O */
     FEATHERLOOM_STOP_LAST = 36,       /* stopped: the gateway's numbers are used up */
     FEATHERLOOM_STOP_REPEATS = 37,    /* stopped: asked again twice from the same E, and the answer still has a hole at it */
-    FEATHERLOOM_BAD_REQUEST = 40,     /* a plan's list, Start or End is bad */
+    FEATHERLOOM_BAD_REQUEST = 40,     /* a plan's list, Start or End is bad; half a pair among numbers to join */
     FEATHERLOOM_NOT_A_SESSION = 90,   /* no day has such a session: it comes back as it was */
     FEATHERLOOM_NOT_A_SEND = 91       /* no session gives such a message to send; of a Logon: this session has none to send */
 };
@@ -497,6 +497,15 @@ typedef struct featherloom_planned {
  * `numbers`, which has room for `room` numbers. Refusals 40, 11.
  */
 featherloom_planned featherloom_plan(const uint8_t *list, size_t count, uint32_t start, uint32_t end,
+                                     uint32_t *numbers, size_t room);
+
+/*
+ * Two plans as pairs of numbers, for s to m and for m + 1 to e, joined to the plan for s to e. Where the last pair of the one is
+ * a gap fill (a, b) and the first of the other a gap fill (b, c), with a below b and b below c, the two touch, and (a, c) stands
+ * in their place. Every other pair is written as it is given, whatever numbers it has. `numbers` has room for `room` numbers.
+ * Refusals in this order: 40 where either has an odd count of numbers; 11.
+ */
+featherloom_planned featherloom_join(const uint32_t *one, size_t one_count, const uint32_t *other, size_t other_count,
                                      uint32_t *numbers, size_t room);
 
 #ifdef __cplusplus

@@ -4,6 +4,7 @@
 //! so that texts may carry bytes after their null.
 
 use crate::crc::crc32c;
+use crate::plan::A_PAIR;
 use crate::reader;
 use crate::session::{self, Phase, Session, LAST};
 use crate::tables::{self, types, Field, Sort};
@@ -1106,16 +1107,99 @@ pub fn hole_slice(rng: &mut Rng, session: &Session, count: usize) -> Vec<u8> {
     back_to_back(rng, session, count, bad_line)
 }
 
-/// A list for the resend plan, now and then a bad one.
-pub fn list(rng: &mut Rng, most: usize) -> Vec<u8> {
+/// A good list for the resend plan.
+pub fn good_list(rng: &mut Rng, most: usize) -> Vec<u8> {
     let count = rng.index(most + 1);
     let business = [0, 10, 50, 90, 100][rng.index(5)];
-    let mut list: Vec<u8> = (0..count).map(|_| rng.chance(business) as u8).collect();
-    if count > 0 && rng.chance(3) {
-        let at = rng.index(count);
+    (0..count).map(|_| rng.chance(business) as u8).collect()
+}
+
+/// A list for the resend plan, now and then a bad one.
+pub fn list(rng: &mut Rng, most: usize) -> Vec<u8> {
+    let mut list = good_list(rng, most);
+    if !list.is_empty() && rng.chance(3) {
+        let at = rng.index(list.len());
         list[at] = rng.byte();
     }
     list
+}
+
+/// Where a plan over a list is cut in two.
+#[derive(Clone, Copy, Debug, PartialEq, Eq)]
+pub struct Cut {
+    pub start: u32,
+    /// The last number before the cut.
+    pub middle: u32,
+    /// The plan's End. 0, or one past the list, means the list's last number.
+    pub end: u32,
+}
+
+/// A cut has a number on both sides.
+pub const LEAST_CUT: usize = 2;
+
+/// A cut of a plan over so many numbers, of which there are enough. Start and End
+/// are often the list's ends.
+pub fn cut(rng: &mut Rng, count: u32) -> Cut {
+    let within = |rng: &mut Rng, from: u32, to: u32| from + rng.below(u64::from(to - from)) as u32;
+    let start = if rng.chance(30) {
+        1
+    } else {
+        within(rng, 1, count)
+    };
+    let middle = within(rng, start, count);
+    let end = match rng.below(5) {
+        0 => 0,
+        1 => count + 1 + rng.below(3) as u32,
+        2 => rng.any_u32().max(count + 1),
+        _ => within(rng, middle, count) + 1,
+    };
+    Cut { start, middle, end }
+}
+
+/// A number at another one or near it, mostly above it, or 0. Past the last it
+/// begins at 0 again.
+fn near(rng: &mut Rng, n: u32) -> u32 {
+    match rng.below(8) {
+        0 => 0,
+        1 => n,
+        2 => n.wrapping_sub(1),
+        _ => n.wrapping_add(1 + rng.below(3) as u32),
+    }
+}
+
+/// The last pair of a plan and the first of another, which often touch, or all but
+/// touch.
+fn meeting(rng: &mut Rng) -> [[u32; A_PAIR]; 2] {
+    let first = rng.any_u32();
+    let new = near(rng, first);
+    let next = if rng.chance(60) { new } else { near(rng, new) };
+    [[first, new], [next, near(rng, next)]]
+}
+
+/// Pairs with small numbers, so that neighbours touch now and then, as those of no
+/// plan do.
+fn small_pairs(rng: &mut Rng) -> Vec<u32> {
+    let count = A_PAIR * rng.index(5);
+    (0..count).map(|_| rng.below(5) as u32).collect()
+}
+
+/// The numbers of two plans to join, or of what is none: few pairs or no pair, and
+/// seldom an odd number more.
+pub fn two_plans(rng: &mut Rng) -> [Vec<u32>; 2] {
+    let (mut one, mut other) = (small_pairs(rng), small_pairs(rng));
+    let [last, next] = meeting(rng);
+    if rng.chance(85) {
+        one.extend(last);
+    }
+    if rng.chance(85) {
+        other.splice(0..0, next);
+    }
+    for numbers in [&mut one, &mut other] {
+        if rng.chance(3) {
+            numbers.push(rng.any_u32());
+        }
+    }
+    [one, other]
 }
 
 /// Lines for daysheet, of an answer whose first copy is spoiled. 4 opens the hole

@@ -246,14 +246,22 @@ extern "C" {
         numbers: *mut u32,
         room: usize,
     ) -> Planned;
+    fn featherloom_join(
+        one: *const u32,
+        one_count: usize,
+        other: *const u32,
+        other_count: usize,
+        numbers: *mut u32,
+        room: usize,
+    ) -> Planned;
 }
 
-/// Where lent bytes begin. No bytes may come with NULL, and here they do.
-fn at(bytes: &[u8]) -> *const u8 {
-    if bytes.is_empty() {
+/// Where lent bytes or numbers begin. None may come with NULL, and here they do.
+fn at<T>(lent: &[T]) -> *const T {
+    if lent.is_empty() {
         ptr::null()
     } else {
-        bytes.as_ptr()
+        lent.as_ptr()
     }
 }
 
@@ -387,6 +395,19 @@ pub fn plan(list: &[u8], start: u32, end: u32, numbers: &mut [u32]) -> Planned {
             list.len(),
             start,
             end,
+            at_mut(numbers),
+            numbers.len(),
+        )
+    }
+}
+
+pub fn join(one: &[u32], other: &[u32], numbers: &mut [u32]) -> Planned {
+    unsafe {
+        featherloom_join(
+            at(one),
+            one.len(),
+            at(other),
+            other.len(),
             at_mut(numbers),
             numbers.len(),
         )

@@ -1,6 +1,6 @@
 use crate::daysheet::daysheet;
 use crate::make::{self, Event, Given, Rng, Sent, Text};
-use crate::plan::plan;
+use crate::plan::{join, plan, A_PAIR, BAD_PLAN, LONGEST_LIST, LONGEST_PLAN};
 use crate::reader::{self, Value, A_FIELD};
 use crate::reports::{self, LIST};
 use crate::session::{
@@ -1166,6 +1166,286 @@ fn plan_covers() {
                 Err(refuse(11, count))
             );
         }
+    }
+}
+
+// ---- Plans that join (document 02, item 12) ----
+
+/// The plan's numbers, for a good list, Start and End.
+fn planned(list: &[u8], start: u32, end: u32) -> Vec<u32> {
+    let mut pairs = vec![[0; A_PAIR]; list.len()];
+    let count = plan(list, start, end, &mut pairs).unwrap();
+    pairs[..count].concat()
+}
+
+/// What stands in the room of a join before it, and behind what it writes.
+const UNTOUCHED: u32 = 0xA5A5_A5A5;
+
+/// The join into so much room: what it wrote, all else left as it was.
+fn joined_with(one: &[u32], other: &[u32], room: usize) -> Result<Vec<u32>, Refusal> {
+    let mut out = vec![UNTOUCHED; room];
+    let joined = join(one, other, &mut out);
+    let written = A_PAIR * joined.unwrap_or(0);
+    assert!(out[written..].iter().all(|&number| number == UNTOUCHED));
+    out.truncate(written);
+    joined.map(|_| out)
+}
+
+/// The join into enough room, and into just as much as it needs; with one number
+/// less, or with none, it is refused with the pairs it needs.
+fn joined(one: &[u32], other: &[u32]) -> Vec<u32> {
+    let all = joined_with(one, other, one.len() + other.len() + 1).unwrap();
+    assert_eq!(joined_with(one, other, all.len()).as_ref(), Ok(&all));
+    let no_room = Err(refuse(wire::NO_ROOM, all.len() / A_PAIR));
+    if !all.is_empty() {
+        assert_eq!(joined_with(one, other, all.len() - 1), no_room);
+        assert_eq!(joined_with(one, other, 0), no_room);
+    }
+    all
+}
+
+/// Lists up to this length are cut in every way.
+const CUT_LISTS: u32 = 8;
+
+/// Every list of so many numbers.
+fn every_list(count: u32) -> impl Iterator<Item = Vec<u8>> {
+    (0..1_u32 << count).map(move |bits| (0..count).map(|at| (bits >> at & 1) as u8).collect())
+}
+
+/// The plan for s to m followed by the plan for m + 1 to e is the plan for s to e
+/// exactly when m and m + 1 are not both session numbers; joined it always is. An
+/// End of 0 or past the list stands for its last number.
+fn cut_and_joined(list: &[u8], start: u32, middle: u32, end: u32) {
+    let one = planned(list, start, middle);
+    let other = planned(list, middle + 1, end);
+    let whole = planned(list, start, end);
+    let both_session = list[middle as usize - 1] == 0 && list[middle as usize] == 0;
+    let appended = [&one[..], &other].concat();
+    let cut = (list, start, middle, end);
+    assert_eq!(appended == whole, !both_session, "{:?}", cut);
+    assert_eq!(joined(&one, &other), whole, "{:?}", cut);
+}
+
+#[test]
+fn plans_join() {
+    for count in 0..=CUT_LISTS {
+        for list in every_list(count) {
+            for start in 1..=count {
+                for middle in start..count {
+                    let ends = (middle + 1..=count).chain([0, count + 1, LAST]);
+                    for end in ends {
+                        cut_and_joined(&list, start, middle, end);
+                    }
+                }
+            }
+        }
+    }
+}
+
+#[test]
+fn plans_join_at_random_cuts() {
+    let mut rng = Rng::new(31);
+    for _ in 0..20_000 {
+        let list = make::good_list(&mut rng, 60);
+        if list.len() >= make::LEAST_CUT {
+            let cut = make::cut(&mut rng, list.len() as u32);
+            cut_and_joined(&list, cut.start, cut.middle, cut.end);
+        }
+    }
+}
+
+/// A plan that is split at every number is joined again, from the front and from
+/// the back.
+#[test]
+fn plans_join_in_many_parts() {
+    let mut rng = Rng::new(32);
+    for _ in 0..1_000 {
+        let list = make::good_list(&mut rng, 40);
+        let parts = (1..=list.len() as u32).map(|n| planned(&list, n, n));
+        let from_front = parts
+            .clone()
+            .fold(Vec::new(), |one, part| joined(&one, &part));
+        let from_back = parts
+            .rev()
+            .fold(Vec::new(), |other, part| joined(&part, &other));
+        if list.is_empty() {
+            assert!(from_front.is_empty() && from_back.is_empty());
+        } else {
+            assert_eq!(from_front, planned(&list, 1, 0));
+            assert_eq!(from_back, planned(&list, 1, 0));
+        }
+    }
+}
+
+#[test]
+fn join_touching() {
+    assert_eq!(joined(&[1, 3], &[3, 5]), [1, 5]);
+    assert_eq!(joined(&[1, 2], &[2, 3]), [1, 3]);
+    assert_eq!(joined(&[7, 0, 8, 9], &[9, 12, 12, 0]), [7, 0, 8, 12, 12, 0]);
+    // At the ends of the numbers. No plan has 0 as a first number, but nothing
+    // more is asked of a gap fill than a New above its first.
+    assert_eq!(joined(&[1, LAST - 1], &[LAST - 1, LAST]), [1, LAST]);
+    assert_eq!(joined(&[0, 1], &[1, 2]), [0, 2]);
+    // Only where the plans meet: pairs of the same plan stay as they are given,
+    // and so does what the new gap fill touches in its turn.
+    assert_eq!(
+        joined(&[1, 2, 2, 3], &[5, 6, 6, 7]),
+        [1, 2, 2, 3, 5, 6, 6, 7]
+    );
+    assert_eq!(joined(&[1, 2, 2, 3], &[3, 4, 4, 5]), [1, 2, 2, 4, 4, 5]);
+}
+
+#[test]
+fn join_not_touching() {
+    for (last, next) in [
+        // A number between, and one in both.
+        ([1, 3], [4, 6]),
+        ([1, 3], [2, 6]),
+        ([1, 3], [1, 3]),
+        // Business numbers, also where their numbers and News are the same.
+        ([1, 0], [2, 0]),
+        ([1, 0], [2, 4]),
+        ([1, 3], [3, 0]),
+        ([2, 0], [2, 0]),
+        ([3, 0], [0, 5]),
+        ([3, 0], [0, 0]),
+        ([0, 0], [0, 0]),
+        ([0, 0], [0, 5]),
+        ([LAST, 0], [0, LAST]),
+        // What is no gap fill: New is not above the first.
+        ([3, 3], [3, 5]),
+        ([4, 3], [3, 5]),
+        ([LAST, 3], [3, 5]),
+        ([1, 3], [3, 3]),
+        ([1, 3], [3, 2]),
+        ([1, LAST], [LAST, 0]),
+        ([1, LAST], [LAST, LAST]),
+        ([3, 3], [3, 3]),
+        // The other way round.
+        ([3, 5], [1, 3]),
+    ] {
+        assert_eq!(joined(&last, &next), [last, next].concat());
+        let one = [[9, 0], last].concat();
+        let other = [next, [8, 0]].concat();
+        assert_eq!(joined(&one, &other), [[9, 0], last, next, [8, 0]].concat());
+    }
+}
+
+#[test]
+fn join_empty() {
+    assert_eq!(joined(&[], &[]), []);
+    for plan in [&[1, 0][..], &[1, 3], &[0, 0], &[1, 2, 2, 0, 3, 7]] {
+        assert_eq!(joined(plan, &[]), plan);
+        assert_eq!(joined(&[], plan), plan);
+    }
+}
+
+/// 40 by the counts of numbers alone, then 11. What is longer than any plan is
+/// taken too.
+#[test]
+fn join_refusals() {
+    let counts = [
+        (0, true),
+        (1, false),
+        (2, true),
+        (3, false),
+        (4, true),
+        (LONGEST_PLAN - 1, false),
+        (LONGEST_PLAN, true),
+        (LONGEST_PLAN + 1, false),
+        (LONGEST_PLAN + 2, true),
+        (2 * LONGEST_PLAN, true),
+    ];
+    for (one, is_one_good) in counts {
+        for (other, is_other_good) in counts {
+            let numbers = |count: usize| vec![1; count];
+            for room in [0, one + other, one + other + 1] {
+                let answer = joined_with(&numbers(one), &numbers(other), room);
+                let needed = (one + other) / A_PAIR;
+                if !(is_one_good && is_other_good) {
+                    assert_eq!(answer, Err(refuse(BAD_PLAN, 0)));
+                } else if room < one + other {
+                    assert_eq!(answer, Err(refuse(wire::NO_ROOM, needed)));
+                } else {
+                    assert_eq!(answer, Ok(numbers(one + other)));
+                }
+            }
+        }
+    }
+    // What is needed is what the join gives, not what is given to it.
+    let no_room = Err(refuse(wire::NO_ROOM, 3));
+    assert_eq!(joined_with(&[1, 0, 2, 3], &[3, 5, 5, 0], 5), no_room);
+    let all = vec![1, 0, 2, 5, 5, 0];
+    assert_eq!(joined_with(&[1, 0, 2, 3], &[3, 5, 5, 0], 6), Ok(all));
+}
+
+/// Plans of the longest list, cut near its ends and in its middle, and two plans
+/// that are each as long as one may be.
+#[test]
+fn join_longest() {
+    let count = LONGEST_LIST as u32;
+    let all_business = vec![1; LONGEST_LIST];
+    let all_session = vec![0; LONGEST_LIST];
+    let in_turn: Vec<u8> = (0..LONGEST_LIST).map(|at| (at % 2) as u8).collect();
+    for list in [all_business, all_session, in_turn] {
+        for middle in [1, 2, count / 2, count / 2 + 1, count - 2, count - 1] {
+            for end in [0, count, count + 1] {
+                cut_and_joined(&list, 1, middle, end);
+            }
+        }
+    }
+    assert_eq!(planned(&vec![1; LONGEST_LIST], 1, 0).len(), LONGEST_PLAN);
+
+    let business: Vec<u32> = (1..=count).flat_map(|n| [n, 0]).collect();
+    assert_eq!(joined(&business, &business), business.repeat(2));
+    let mut one = business.clone();
+    let mut other = business;
+    one[LONGEST_PLAN - 1] = count + 3;
+    other[..A_PAIR].copy_from_slice(&[count + 3, count + 9]);
+    let whole = joined(&one, &other);
+    assert_eq!(whole.len(), 2 * LONGEST_PLAN - A_PAIR);
+    assert_eq!(
+        whole[LONGEST_PLAN - A_PAIR..LONGEST_PLAN],
+        [count, count + 9]
+    );
+    assert_eq!(whole[..LONGEST_PLAN - A_PAIR], one[..LONGEST_PLAN - A_PAIR]);
+    assert_eq!(whole[LONGEST_PLAN..], other[A_PAIR..]);
+}
+
+/// What the maker of plans makes: each pair stays, but for two that touch.
+#[test]
+fn join_made_plans() {
+    let mut rng = Rng::new(33);
+    let (mut touched, mut stayed, mut odd) = (0, 0, 0);
+    for _ in 0..20_000 {
+        let [one, other] = make::two_plans(&mut rng);
+        let appended = [&one[..], &other].concat();
+        if one.len() % A_PAIR != 0 || other.len() % A_PAIR != 0 {
+            let answer = joined_with(&one, &other, appended.len());
+            assert_eq!(answer, Err(refuse(BAD_PLAN, 0)));
+            odd += 1;
+            continue;
+        }
+        let all = joined(&one, &other);
+        let touches = match (&one[..], &other[..]) {
+            ([.., first, new], [next, last_new, ..]) => {
+                new == next && first < new && next < last_new
+            }
+            _ => false,
+        };
+        let mut expected = appended;
+        if touches {
+            // The New of the first and the number of the second go.
+            let at = one.len() - 1;
+            expected.drain(at..at + A_PAIR);
+            touched += 1;
+        } else {
+            stayed += 1;
+        }
+        assert_eq!(all, expected);
+    }
+    for count in [touched, stayed, odd] {
+        assert!(count > 500, "{:?}", (touched, stayed, odd));
     }
 }
 
@@ -2436,6 +2716,75 @@ fn session_live_in_turn() {
                 ..NOTHING
             }
         );
+    }
+}
+
+// ---- Two gap fills as one (document 02, item 12) ----
+
+/// A Live session that takes gap fills from E to b and from b to c is as with one
+/// from E to c, every member of it, whatever their PossDup.
+fn filled_as_one(session: &Session, b: u32, c: u32) {
+    let a = session.e;
+    let flags: [fn(Vec<u8>) -> Vec<u8>; 2] = [|bytes| bytes, again];
+    for (flag, flag_behind) in flags
+        .iter()
+        .flat_map(|flag| flags.map(|other| (flag, other)))
+    {
+        let mut in_turn = session.clone();
+        let first = stepped(&mut in_turn, &flag(gap_fill(a, b)));
+        assert_eq!(first.row, row(RowSort::Filled, a, b - 1));
+        let second = stepped(&mut in_turn, &flag_behind(gap_fill(b, c)));
+        assert_eq!(second.row, row(RowSort::Filled, b, c - 1));
+        let mut at_once = session.clone();
+        let both = stepped(&mut at_once, &flag(gap_fill(a, c)));
+        assert_eq!(both.row, row(RowSort::Filled, a, c - 1));
+        assert_eq!(in_turn, at_once);
+        for answer in [first, second, both] {
+            assert_eq!((answer.code, answer.sends), (0, [Send::None; 2]));
+        }
+        let ahead = if c > session.m { 0 } else { session.m };
+        assert_eq!(numbers(&in_turn), (c, session.o, ahead, 0));
+        assert_eq!(in_turn.comp_id, session.comp_id);
+    }
+}
+
+/// M is 0, or stands at E, within the first gap fill, at b, between b and c, at c
+/// and past it.
+#[test]
+fn two_gap_fills_as_one() {
+    for o in [5, 9, LAST] {
+        for (a, b, c) in [(3, 6, 9), (3, 4, 5), (1, 2, LAST), (3, LAST - 1, LAST)] {
+            filled_as_one(&live(a, o), b, c);
+            let mut ahead = vec![a.max(2), a + 1, b - 1, b, b + 1, c - 1, c, LAST];
+            ahead.push(c.saturating_add(1));
+            for m in ahead {
+                for repeats in 0..=MOST_REPEATS {
+                    filled_as_one(&with_hole(a, o, m.max(2), repeats), b, c);
+                }
+            }
+        }
+        filled_as_one(&live(LAST - 2, o), LAST - 1, LAST);
+        filled_as_one(&with_hole(LAST - 2, o, LAST, 1), LAST - 1, LAST);
+    }
+}
+
+/// The plan's gap fills do so too: what the bench sends over a lunch leaves the
+/// session as the undivided plan does.
+#[test]
+fn joined_fills_as_one() {
+    let list = [1, 0, 0, 0, 0, 1];
+    let fills = |numbers: &[u32]| {
+        let mut session = with_hole(2, 9, 4, 1);
+        for pair in numbers.chunks_exact(A_PAIR) {
+            stepped(&mut session, &again(gap_fill(pair[0], pair[1])));
+        }
+        session
+    };
+    for middle in 2..5 {
+        let (one, other) = (planned(&list, 2, middle), planned(&list, middle + 1, 5));
+        let appended = [&one[..], &other].concat();
+        assert_eq!(fills(&appended), fills(&joined(&one, &other)));
+        assert_eq!(joined(&one, &other), [2, 6]);
     }
 }
 

@@ -6,12 +6,20 @@
 // Start and End, and for numbers 1, 2, .. a digit that says whether each is business (1) or session (0). It prints a line for each part of
 // the plan, business n=2 or gapfill first=3 new=5; or refused 40; or refused 11 and how many pairs the plan needs, where they are more than
 // the 32,768 that it holds. Anything else is answered on standard error.
-ghost use Prim.Native.Nat.{_*_, _≤_};
+//
+// A third word, as in start=1 end=0 split=3, splits the plan behind number 3 (document 02, item 12). It then prints the plan for Start to
+// that number, the plan for the number after it to End, and the two joined, each under a line that names it: plan start=1 end=3, plan start=4
+// end=0, joined start=1 end=0. Where one of the two is refused, nothing is joined.
+ghost use mathlib.Core.Path.{_≡_};
+ghost use Prim.Native.Nat.{ℕ, _*_, _≤_};
 ghost use lib.ListN.{length};
+ghost use Rattle.plan.specs.declared.Planned.the-variants.{Wrote};
 use libc::STDERR_FILENO;
 use libc::STDIN_FILENO;
 use libc::STDOUT_FILENO;
+use plan::A_PAIR;
 use plan::Planned;
+use plan::join;
 use plan::plan;
 
 fn say(text: &[u8]) {
@@ -25,7 +33,7 @@ fn say_number(n: u64) {
 fn usage() {
     io::write_all(
         STDERR_FILENO,
-        b"bench: standard input must be two lines: start=S end=E, with S and E from 0 to 4294967295, and then at most 65536 digits, 1 for a business number and 0 for a session number\n",
+        b"bench: standard input must be two lines: start=S end=E, with S and E from 0 to 4294967295, or start=S end=E split=M, with M from 1 to 4294967294, and then at most 65536 digits, 1 for a business number and 0 for a session number\n",
     );
 }
 
@@ -143,10 +151,35 @@ fn number(s: &[u8]) -> Numeral {
     Numeral { value, digits }
 }
 
-// The first line.
+// Where a plan is split: nowhere, or behind a number.
+enum Split {
+    Nowhere,
+    Behind(u32),
+}
+
+// The first line: Start, End, and where the plan is split.
 enum Request {
-    Plan(u32, u32),
+    Plan(u32, u32, Split),
     Bad,
+}
+
+// The word that splits, behind the first two. It names no number 0, which as an End would mean the last.
+fn split_asked(s: u32, e: u32, word: &[u8]) -> Request {
+    if !begins(word, b" split=") {
+        return Request::Bad;
+    }
+    let third = from(word, 7);
+    let m = number(third);
+    if m.digits < third.len() {
+        return Request::Bad;
+    }
+    if m.value == 0 {
+        return Request::Bad;
+    }
+    if MOST < m.value {
+        return Request::Bad;
+    }
+    Request::Plan(s, e, Split::Behind(m.value as u32))
 }
 
 fn asked(line: &[u8]) -> Request {
@@ -161,9 +194,6 @@ fn asked(line: &[u8]) -> Request {
     }
     let second = from(rest, 5);
     let e = number(second);
-    if e.digits < second.len() {
-        return Request::Bad;
-    }
     if s.digits == 0 || e.digits == 0 {
         return Request::Bad;
     }
@@ -173,7 +203,11 @@ fn asked(line: &[u8]) -> Request {
     if MOST < e.value {
         return Request::Bad;
     }
-    Request::Plan(s.value as u32, e.value as u32)
+    let more = from(second, e.digits);
+    if more.len() == 0 {
+        return Request::Plan(s.value as u32, e.value as u32, Split::Nowhere);
+    }
+    split_asked(s.value as u32, e.value as u32, more)
 }
 
 // The first n bytes, digits 0 and 1, become the numbers 0 and 1; false where there is another byte.
@@ -211,7 +245,7 @@ fn say_parts(pairs: &[u32], count: usize)
 {
     let mut i = 0;
     while i < count {
-        say_part(pairs[2 * i], pairs[2 * i + 1]);
+        say_part(pairs[A_PAIR * i], pairs[A_PAIR * i + 1]);
         i += 1;
     }
 }
@@ -221,8 +255,10 @@ fn say_refused(planned: Planned) {
     say_number(planned.refusal() as u64);
 }
 
-fn say_plan(list: &[u8], s: u32, e: u32, pairs: &mut [u32]) {
-    let planned = plan(list, s, e, pairs);
+// What was written, or why nothing was.
+fn say_planned(planned: Planned, pairs: &[u32])
+    requires { ⌜ ((n : ℕ) → planned ≡ Wrote n → 2 * n ≤ length (now pairs)) ⌝ }
+{
     match planned {
         Planned::Wrote(n) => say_parts(pairs, n),
         Planned::BadRequest => {
@@ -238,34 +274,93 @@ fn say_plan(list: &[u8], s: u32, e: u32, pairs: &mut [u32]) {
     }
 }
 
-// The list is in the first n bytes.
-fn answer(list: &mut [u8], n: usize, s: u32, e: u32) {
+fn say_plan(list: &[u8], s: u32, e: u32, pairs: &mut [u32]) -> Planned
+    ensures { λ r. ⌜ ((n : ℕ) → r ≡ Wrote n → 2 * n ≤ length (now (pairs .exit))) ⌝ }
+{
+    let planned = plan(list, s, e, pairs);
+    say_planned(planned, pairs);
+    planned
+}
+
+// The line above a plan where there are more than one.
+fn say_which(word: &[u8], s: u32, e: u32) {
+    say(word);
+    say(b" start=");
+    say_number(s as u64);
+    say(b" end=");
+    say_number(e as u64);
+    say(b"\n");
+}
+
+fn say_joined(one: &[u32], other: &[u32], s: u32, e: u32) {
     let mut pairs = [0u32; 65536];
+    say_which(b"joined", s, e);
+    let joined = join(one, other, &mut pairs);
+    say_planned(joined, &pairs);
+}
+
+// The plan for s to m and the plan for m + 1 to e, and the two joined. No number follows the last one.
+fn say_split(list: &[u8], s: u32, m: u32, e: u32) {
+    if m == u32::MAX {
+        usage();
+        return;
+    }
+    let mut one = [0u32; 65536];
+    let mut other = [0u32; 65536];
+    say_which(b"plan", s, m);
+    let first = say_plan(list, s, m, &mut one);
+    say_which(b"plan", m + 1, e);
+    let second = say_plan(list, m + 1, e, &mut other);
+    match first {
+        Planned::Wrote(a) => match second {
+            Planned::Wrote(b) => say_joined(&one[..A_PAIR * a], &other[..A_PAIR * b], s, e),
+            Planned::BadRequest => {}
+            Planned::NoRoom(_) => {}
+        },
+        Planned::BadRequest => {}
+        Planned::NoRoom(_) => {}
+    }
+}
+
+fn say_whole(list: &[u8], s: u32, e: u32) {
+    let mut pairs = [0u32; 65536];
+    let _planned = say_plan(list, s, e, &mut pairs);
+}
+
+fn say_answer(list: &[u8], s: u32, e: u32, split: Split) {
+    match split {
+        Split::Nowhere => say_whole(list, s, e),
+        Split::Behind(m) => say_split(list, s, m, e),
+    }
+}
+
+// The list is in the first n bytes.
+fn answer(list: &mut [u8], n: usize, s: u32, e: u32, split: Split) {
     if mark(list, n) {
-        say_plan(front(list, n), s, e, &mut pairs);
+        say_answer(front(list, n), s, e, split);
     } else {
         usage();
     }
 }
 
 // The list's line has ended, and nothing may follow it.
-fn answer_last(list: &mut [u8], n: usize, s: u32, e: u32) {
+fn answer_last(list: &mut [u8], n: usize, s: u32, e: u32, split: Split) {
     match next_byte() {
         Next::Byte(_) => too_long(),
-        Next::End => answer(list, n, s, e),
+        Next::End => answer(list, n, s, e, split),
         Next::Failed => unread(),
     }
 }
 
-fn run(s: u32, e: u32) {
+fn run(s: u32, e: u32, split: Split) {
     let mut list = [0u8; 65536];
     match read_line(&mut list) {
-        Line::Whole(n) => answer_last(&mut list, n, s, e),
+        Line::Whole(n) => answer_last(&mut list, n, s, e, split),
         Line::Last(n) => {
             if n == 0 {
                 usage();
             } else {
-                answer(&mut list, n, s, e);
+                answer(&mut list, n, s, e, split);
             }
         }
         Line::TooLong => too_long(),
@@ -277,7 +372,7 @@ fn main() {
     let mut line = [0u8; 64];
     match read_line(&mut line) {
         Line::Whole(n) => match asked(front(&line, n)) {
-            Request::Plan(s, e) => run(s, e),
+            Request::Plan(s, e, split) => run(s, e, split),
             Request::Bad => usage(),
         },
         Line::Last(_) => usage(),

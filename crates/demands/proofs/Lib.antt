@@ -13,3 +13,4 @@ pub mod Whole
 pub mod Hole
 pub mod Bears
 pub mod WorkedReport
+pub mod Fills

@@ -18,7 +18,7 @@ ghost use Rattle.crc.specs.Crc.{crc32c};
 ghost use Rattle.capi.specs.Reading.{readC, compIdC, mapC, bodyC, askC, textC, ListsC};
 ghost use Rattle.capi.specs.Sessions.{freshC, savedC, connectC, dropC, stepC, SendsC, LogsOnC};
 ghost use Rattle.capi.specs.Version.{version};
-ghost use Rattle.capi.specs.Planning.{PlansC};
+ghost use Rattle.capi.specs.Planning.{PlansC, JoinsC};
 ghost use Rattle.capi.specs.Steps.{TakesC};
 ghost use Rattle.capi.specs.Writing.{WritesC, SpellsC};
 
@@ -180,4 +180,11 @@ pub extern "C" fn featherloom_plan(
     ensures { λ r. ⌜ PlansC (now (list .entry)) start end (now (numbers .entry)) r (now (numbers .exit)) ⌝ }
 {
     capi::planning::plan_c(list, start, end, numbers)
+}
+
+#[no_mangle]
+pub extern "C" fn featherloom_join(one: &[u32], other: &[u32], numbers: &mut [u32]) -> CPlanned
+    ensures { λ r. ⌜ JoinsC (now (one .entry)) (now (other .entry)) (now (numbers .entry)) r (now (numbers .exit)) ⌝ }
+{
+    capi::planning::join_c(one, other, numbers)
 }

@@ -10,7 +10,7 @@ use lib.Dec.{eqb, leb}
 use lib.ListN.{length, getD, set, take, drop, drop-of-length-le, length-append, length-set, take-append-drop}
 use lib.Seq.{drop-cons, sets-eq, take-at, drop-at, drop-drop, length-take-le}
 use borrow.Author.Tests.{eq-eqb, ne-eqb, le-leb, lt-leb, leb-true}
-use Rattle.plan.specs.Plan.{Part, business, gapFill, session, partsFrom, lastNumber, partsOf, allMarked, isRequest, pairs, planOf, planned}
+use Rattle.plan.specs.Plan.{Part, business, gapFill, session, partsFrom, lastNumber, partsOf, allMarked, isRequest, pairs, paired, answered, pairedIn}
 use Rattle.plan.specs.declared.Planned.{Planned}
 use Rattle.plan.specs.declared.Planned.the-variants.{Wrote, BadRequest, NoRoom}
 
@@ -165,33 +165,31 @@ parts-at-start list s e n h q =
     ap₂ (λ (k m : ℕ). partsFrom k (drop (s - 1) (take m list))) u q
 
 -- the three answers
-module _ (list : List ℕ) (s e : ℕ) (d : List ℕ) where
-  pub plan-refused : isRequest list s e ≡ false → (BadRequest ≡ planOf list s e d) × (d ≡ planned list s e d)
-  unfolding planOf planned
-  plan-refused q = (rw q, rw q)
+pub refused : {good : Bool} (whole : List Part) (d : List ℕ) → good ≡ false → (BadRequest ≡ answered good whole d) × (d ≡ pairedIn good whole d)
+unfolding answered pairedIn
+refused whole d q = (rw q, rw q)
 
-  module _ (q : isRequest list s e ≡ true) (ps : List Part) (p : ps ≡ partsOf list s e) (n : ℕ) (c : n ≡ length ps) where
-    pub plan-no-room : length d < 2 * n → (NoRoom n ≡ planOf list s e d) × (d ≡ planned list s e d)
-    unfolding planOf planned
-    plan-no-room h =
-        let k : n ≡ length (partsOf list s e) = c ∙ ap length p in
-        let full = lt-leb (2 * length (partsOf list s e)) (length d) (omega arith) in
-        (rw (q, full) (ap NoRoom k), rw (q, full))
+module _ {good : Bool} {whole : List Part} (d : List ℕ) (q : good ≡ true) (ps : List Part) (p : ps ≡ whole) (n : ℕ) (c : n ≡ length ps) where
+  pub no-room : length d < 2 * n → (NoRoom n ≡ answered good whole d) × (d ≡ pairedIn good whole d)
+  unfolding answered pairedIn
+  no-room h =
+      let k : n ≡ length whole = c ∙ ap length p in
+      let full = lt-leb (2 * length whole) (length d) (omega arith) in
+      (rw (q, full) (ap NoRoom k), rw (q, full))
 
-    pub plan-wrote : 2 * n ≤ length d → (x : List ℕ) → x ≡ pairs ps ++ drop (2 * length ps) d → (Wrote n ≡ planOf list s e d) × (x ≡ planned list s e d)
-    unfolding planOf planned
-    plan-wrote h x w =
-        let k : n ≡ length (partsOf list s e) = c ∙ ap length p in
-        let room = le-leb (2 * length (partsOf list s e)) (length d) (omega arith) in
-        (rw (q, room) (ap Wrote k), rw (q, room) (w ∙ ap (λ (x : List Part). pairs x ++ drop (2 * length x) d) p))
+  pub wrote : 2 * n ≤ length d → (x : List ℕ) → x ≡ paired ps d → (Wrote n ≡ answered good whole d) × (x ≡ pairedIn good whole d)
+  unfolding answered pairedIn
+  wrote h x w =
+      let k : n ≡ length whole = c ∙ ap length p in
+      let room = le-leb (2 * length whole) (length d) (omega arith) in
+      (rw (q, room) (ap Wrote k), rw (q, room) (w ∙ ap (λ (x : List Part). paired x d) p))
 
 -- what was written fits
-pub wrote-fits : (list : List ℕ) (s e : ℕ) (d : List ℕ) (r : Planned) (n : ℕ) → r ≡ planOf list s e d → r ≡ Wrote n → 2 * n ≤ length d
-unfolding planOf
-wrote-fits list s e d r n a w = go (isRequest list s e) (leb (2 * length (partsOf list s e)) (length d)) refl (sym a ∙ w)
+pub wrote-fits : (good : Bool) (ps : List Part) (d : List ℕ) (r : Planned) (n : ℕ) → r ≡ answered good ps d → r ≡ Wrote n → 2 * n ≤ length d
+unfolding answered
+wrote-fits good ps d r n a w = go good (leb (2 * length ps) (length d)) refl (sym a ∙ w)
   where
-    go : (a b : Bool) → leb (2 * length (partsOf list s e)) (length d) ≡ b
-        → cond a (cond b (Wrote (length (partsOf list s e))) (NoRoom (length (partsOf list s e)))) BadRequest ≡ Wrote n → 2 * n ≤ length d
+    go : (a b : Bool) → leb (2 * length ps) (length d) ≡ b → cond a (cond b (Wrote (length ps)) (NoRoom (length ps))) BadRequest ≡ Wrote n → 2 * n ≤ length d
     go false b f w = let z : _≡_ {A = ℕ} 0 1 = cc in absurd (omega arith)
     go true false f w = let z : _≡_ {A = ℕ} 0 1 = cc in absurd (omega arith)
-    go true true f w = let k : length (partsOf list s e) ≡ n = cc in omega (arith, leb-true (2 * length (partsOf list s e)) (length d) f)
+    go true true f w = let k : length ps ≡ n = cc in omega (arith, leb-true (2 * length ps) (length d) f)

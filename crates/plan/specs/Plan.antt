@@ -2,7 +2,7 @@
 use Prim.Native.Nat.{ℕ, _+_, _-_, _*_, min}
 use mathlib.Core.Bool.{Bool, true, false, cond, _&&_, _||_}
 use mathlib.Core.List.{List, [], _∷_, _++_}
-use lib.Dec.{eqb, leb, ltb}
+use lib.Dec.{eqb, leb}
 use lib.ListN.{length, take, drop}
 use Rattle.wire.specs.Laying.{noRoom}
 use Rattle.plan.specs.declared.Planned.{Planned}
@@ -70,16 +70,14 @@ abbrev pub paired : List Part → List ℕ → List ℕ
 paired ps d = pairs ps ++ drop (2 * length ps) d
 
 -- the answer, and the lent buffer afterwards: nothing written on a refusal
-unfoldable pub planOf : List ℕ → ℕ → ℕ → List ℕ → Planned
-planOf list s e d =
-    cond (isRequest list s e) (
-    cond (leb (2 * length (partsOf list s e)) (length d)) (Wrote (length (partsOf list s e)))
-    (NoRoom (length (partsOf list s e))))
-    BadRequest
+unfoldable pub answered : Bool → List Part → List ℕ → Planned
+answered good ps d = cond good (cond (leb (2 * length ps) (length d)) (Wrote (length ps)) (NoRoom (length ps))) BadRequest
 
-unfoldable pub planned : List ℕ → ℕ → ℕ → List ℕ → List ℕ
-planned list s e d =
-    cond (isRequest list s e) (
-    cond (leb (2 * length (partsOf list s e)) (length d)) (paired (partsOf list s e) d)
-    d)
-    d
+unfoldable pub pairedIn : Bool → List Part → List ℕ → List ℕ
+pairedIn good ps d = cond good (cond (leb (2 * length ps) (length d)) (paired ps d) d) d
+
+abbrev pub planOf : List ℕ → ℕ → ℕ → List ℕ → Planned
+planOf list s e = answered (isRequest list s e) (partsOf list s e)
+
+abbrev pub planned : List ℕ → ℕ → ℕ → List ℕ → List ℕ
+planned list s e = pairedIn (isRequest list s e) (partsOf list s e)

@@ -14,7 +14,8 @@ use std::fmt::{Debug, Formatter};
 use std::io::Write;
 use std::process::{exit, Command, Stdio};
 use std::time::{Duration, Instant};
-use twin::make::{self, Event, Rng, Sent, Text};
+use twin::make::{self, Cut, Event, Rng, Sent, Text};
+use twin::plan::{A_PAIR, LONGEST_PLAN};
 use twin::reader::{self, Head, A_FIELD};
 use twin::reports::LIST;
 use twin::session::{self, Ended, Phase, RowSort, A_ROW, A_SEND, LAST, NOT_A_SEND};
@@ -32,9 +33,9 @@ const ENOUGH: u32 = 10;
 // ---- Counting ----
 
 /// The categories, with their parts of a hundred of the random comparisons.
-const CATEGORIES: [(&str, u64); 14] = [
+const CATEGORIES: [(&str, u64); 15] = [
     ("short inputs", 6),
-    ("valid messages", 24),
+    ("valid messages", 22),
     ("writes, good and bad", 6),
     ("damage", 9),
     ("histories", 17),
@@ -44,6 +45,7 @@ const CATEGORIES: [(&str, u64); 14] = [
     ("decimals as text", 1),
     ("many messages in one call", 12),
     ("holes in the answer", 11),
+    ("plans that join", 2),
     ("texts, every character", 0),
     ("version", 0),
     ("daysheet", 0),
@@ -59,6 +61,10 @@ struct Tally {
     /// How often days with holes met each situation: in single steps, and in calls
     /// with many messages.
     holes: [Situations; 2],
+    /// How often joins, cuts and two gap fills met each of theirs.
+    joins: [u64; JOINS.len()],
+    cuts: [u64; CUTS.len()],
+    fills: [u64; FILLS.len()],
     differences: u32,
     began: Instant,
     told: Instant,
@@ -72,6 +78,9 @@ impl Tally {
             met: [0; NOT_A_SEND as usize + 1],
             ended: [0; Ended::NoSlot as usize + 1],
             holes: [[0; SITUATIONS.len()]; 2],
+            joins: [0; JOINS.len()],
+            cuts: [0; CUTS.len()],
+            fills: [0; FILLS.len()],
             differences: 0,
             began: Instant::now(),
             told: Instant::now(),
@@ -137,13 +146,18 @@ impl Tally {
             short, down, no_slot
         );
         let [singles, many] = &self.holes;
-        println!("holes in the answer, single steps: {}", met_of(singles));
-        println!("holes in the answer, many messages: {}", met_of(many));
+        let [singles_met, many_met] = [singles, many].map(|holes| met_of(&SITUATIONS, holes));
+        println!("holes in the answer, single steps: {}", singles_met);
+        println!("holes in the answer, many messages: {}", many_met);
+        println!("plans that join: {}", met_of(&JOINS, &self.joins));
+        println!("plans cut in two: {}", met_of(&CUTS, &self.cuts));
+        println!("two gap fills: {}", met_of(&FILLS, &self.fills));
+        let counts: [&[u64]; 5] = [singles, many, &self.joins, &self.cuts, &self.fills];
         // A run that differences have ended did not come so far.
         let is_whole = self.differences < ENOUGH;
-        let missed = is_whole && (missed(singles) || missed(many));
+        let missed = is_whole && counts.iter().any(|counts| missed(counts));
         if missed {
-            println!("compare: a situation of the holes was never met, so nothing is said of it");
+            println!("compare: a situation was never met, so nothing is said of it");
         }
         println!("seconds {}", self.began.elapsed().as_secs());
         println!(
@@ -478,6 +492,16 @@ fn stepped(s: proved::Session, bytes: &[u8]) -> Stepped {
     }
 }
 
+fn planned(answer: Result<usize, Refusal>) -> Planned {
+    match answer {
+        Ok(pairs) => Planned { refusal: 0, pairs },
+        Err(refusal) => Planned {
+            refusal: refusal.number,
+            pairs: refusal.besides as usize,
+        },
+    }
+}
+
 // ---- The calls, one comparison each ----
 
 fn hold_read(tally: &mut Tally, bytes: &[u8]) {
@@ -550,6 +574,14 @@ fn hold_written(
 /// Room of exactly `length`, one less, and more.
 fn rooms(rng: &mut Rng, length: usize) -> [usize; 3] {
     [length, length.saturating_sub(1), length + 1 + rng.index(80)]
+}
+
+/// A list of so many numbers with guards on both sides. No two places of it hold
+/// the same number.
+fn guarded(room: usize) -> Vec<u32> {
+    (0..(GUARD + room + GUARD) as u32)
+        .map(|at| at.wrapping_mul(0x9E37_79B9) ^ 0x5555_5555)
+        .collect()
 }
 
 /// All fields into a list of so many numbers: the answer, and every number of
@@ -1409,22 +1441,14 @@ fn plans(tally: &mut Tally, rng: &mut Rng, until: u64) {
 
 /// Room is counted in numbers: an odd one at the end holds no pair.
 fn hold_plan(tally: &mut Tally, list: &[u8], start: u32, end: u32, room: usize) {
-    let mut its: Vec<u32> = (0..(GUARD + room + GUARD) as u32)
-        .map(|at| at.wrapping_mul(0x9E37_79B9) ^ 0x5555_5555)
-        .collect();
+    let mut its = guarded(room);
     let mut ours = its.clone();
     let lent = &mut ours[GUARD..GUARD + room];
     let mut pairs: Vec<[u32; 2]> = lent
-        .chunks_exact(2)
+        .chunks_exact(A_PAIR)
         .map(|pair| [pair[0], pair[1]])
         .collect();
-    let answer = match plan::plan(list, start, end, &mut pairs) {
-        Ok(pairs) => Planned { refusal: 0, pairs },
-        Err(refusal) => Planned {
-            refusal: refusal.number,
-            pairs: refusal.besides as usize,
-        },
-    };
+    let answer = planned(plan::plan(list, start, end, &mut pairs));
     for (at, number) in pairs.concat().into_iter().enumerate() {
         lent[at] = number;
     }
@@ -1533,16 +1557,10 @@ struct Lists {
 }
 
 impl Lists {
-    /// No two places of a list hold the same number.
     fn new(rooms: Rooms) -> Lists {
-        let list = |room: usize| {
-            (0..(GUARD + room + GUARD) as u32)
-                .map(|at| at.wrapping_mul(0x9E37_79B9) ^ 0x5555_5555)
-                .collect()
-        };
         Lists {
-            rows: list(rooms.rows),
-            sends: list(rooms.sends),
+            rows: guarded(rooms.rows),
+            sends: guarded(rooms.sends),
         }
     }
 
@@ -1915,11 +1933,13 @@ impl Seen {
     }
 }
 
-type Situation = (&'static str, fn(&Seen) -> bool);
+/// What a part of the comparison must meet: its name, and how to see it. One that
+/// is never met fails the run, so that none is lost without a word when the makers
+/// change.
+type Situation<S> = (&'static str, fn(&S) -> bool);
 
-/// What days with holes must meet. One that is never met fails the run, so that
-/// none is lost without a word when the makers change.
-const SITUATIONS: [Situation; 25] = [
+/// What days with holes must meet.
+const SITUATIONS: [Situation<Seen>; 25] = [
     ("first repeat alone", |seen| {
         seen.asks_again(0) && !seen.fills_first()
     }),
@@ -1992,16 +2012,23 @@ const SITUATIONS: [Situation; 25] = [
 /// How often each situation was met.
 type Situations = [u64; SITUATIONS.len()];
 
-fn met_of(situations: &Situations) -> String {
-    let all = SITUATIONS.iter().zip(situations);
+fn met_of<S>(situations: &[Situation<S>], met: &[u64]) -> String {
+    let all = situations.iter().zip(met);
     let all: Vec<String> = all
         .map(|((name, _), times)| format!("{} ({})", name, times))
         .collect();
     all.join(", ")
 }
 
-fn missed(situations: &Situations) -> bool {
-    situations.contains(&0)
+fn missed(met: &[u64]) -> bool {
+    met.contains(&0)
+}
+
+/// Counts the situations that were met here.
+fn note<S>(situations: &[Situation<S>], met: &mut [u64], seen: &S) {
+    for (times, (_, is_met)) in met.iter_mut().zip(situations) {
+        *times += u64::from(is_met(seen));
+    }
 }
 
 /// Where the counts of single steps stand, and those of many messages.
@@ -2041,9 +2068,7 @@ impl Watch {
             afresh: self.afresh,
             before,
         };
-        for (times, (_, is_met)) in met.iter_mut().zip(SITUATIONS) {
-            *times += u64::from(is_met(&seen));
-        }
+        note(&SITUATIONS, met, &seen);
         // A step that moves E may let M stand: the count begins anew under it.
         self.afresh = self.session.m != 0 && (self.afresh || seen.clears());
         answer.code
@@ -2252,6 +2277,518 @@ fn holes(tally: &mut Tally, rng: &mut Rng, until: u64) {
             hole_slices(tally, rng);
         }
         days += 1;
+    }
+}
+
+// ---- Plans that join ----
+
+/// Two plans to join, and what the twin answers.
+struct Joining {
+    /// How many numbers each has.
+    one: usize,
+    other: usize,
+    /// The last pair of the one and the first of the other.
+    meeting: Option<[[u32; A_PAIR]; 2]>,
+    /// Whether two pairs of the same plan look as if they touched.
+    touches_within: bool,
+    room: usize,
+    answer: Planned,
+}
+
+/// Whether two pairs are gap fills of which the second begins at the New of the
+/// first.
+fn touch([a, b]: [u32; A_PAIR], [next, c]: [u32; A_PAIR]) -> bool {
+    a < b && b == next && b < c
+}
+
+/// The pairs of a plan's numbers; an odd number at the end is in none.
+fn pairs_of(numbers: &[u32]) -> impl DoubleEndedIterator<Item = [u32; A_PAIR]> + Clone + '_ {
+    let pairs = numbers.chunks_exact(A_PAIR);
+    pairs.map(|pair| [pair[0], pair[1]])
+}
+
+fn touches_within(numbers: &[u32]) -> bool {
+    let pairs = pairs_of(numbers);
+    let behind = pairs.clone().skip(1);
+    pairs.zip(behind).any(|(pair, next)| touch(pair, next))
+}
+
+impl Joining {
+    fn new(one: &[u32], other: &[u32], room: usize, answer: Planned) -> Joining {
+        let meeting = pairs_of(one).next_back().zip(pairs_of(other).next());
+        Joining {
+            one: one.len(),
+            other: other.len(),
+            meeting: meeting.map(|(last, next)| [last, next]),
+            touches_within: touches_within(one) || touches_within(other),
+            room,
+            answer,
+        }
+    }
+
+    fn is_written(&self) -> bool {
+        self.answer.refusal == 0
+    }
+
+    /// Whether the plans were written with one gap fill in the place of two.
+    fn is_joined(&self) -> bool {
+        self.is_written() && self.written() + A_PAIR == self.one + self.other
+    }
+
+    /// Whether both have pairs, and all were written as they stood.
+    fn is_appended(&self) -> bool {
+        self.is_written() && self.meeting.is_some() && self.written() == self.one + self.other
+    }
+
+    /// Whether all were written as they stood though the pairs where the plans meet
+    /// are like this.
+    fn misses(&self, is_like: fn([u32; A_PAIR], [u32; A_PAIR]) -> bool) -> bool {
+        self.is_appended()
+            && self
+                .meeting
+                .map_or(false, |[last, next]| is_like(last, next))
+    }
+
+    /// How many numbers were written, or are needed.
+    fn written(&self) -> usize {
+        A_PAIR * self.answer.pairs
+    }
+
+    fn is_bad(&self) -> bool {
+        self.answer.refusal == plan::BAD_PLAN
+    }
+
+    fn lacks_room(&self) -> bool {
+        self.answer.refusal == wire::NO_ROOM
+    }
+}
+
+fn is_odd(count: usize) -> bool {
+    count % A_PAIR != 0
+}
+
+/// What joins must meet.
+const JOINS: [Situation<Joining>; 26] = [
+    ("touching, joined", |join| join.is_joined()),
+    ("joined, room exact", |join| {
+        join.is_joined() && join.room == join.written()
+    }),
+    ("joined up to the last number", |join| {
+        let is_last = |[_, [_, new]]: [[u32; A_PAIR]; 2]| new == LAST;
+        join.is_joined() && join.meeting.map_or(false, is_last)
+    }),
+    ("not touching, appended", |join| join.is_appended()),
+    ("appended, room exact", |join| {
+        join.is_appended() && join.room == join.written()
+    }),
+    ("New one below the next", |join| {
+        join.misses(|[a, b], [next, c]| a < b && next < c && next.checked_sub(b) == Some(1))
+    }),
+    ("New one above the next", |join| {
+        join.misses(|[a, b], [next, c]| a < b && next < c && b.checked_sub(next) == Some(1))
+    }),
+    ("New at its own first", |join| {
+        join.misses(|[a, b], [next, c]| a == b && b == next && next < c)
+    }),
+    ("New below its own first", |join| {
+        join.misses(|[a, b], [next, c]| a > b && b > 0 && b == next && next < c)
+    }),
+    ("the next's New at its first", |join| {
+        join.misses(|[a, b], [next, c]| a < b && b == next && next == c)
+    }),
+    ("a business number at New", |join| {
+        join.misses(|[a, b], [next, c]| a < b && b == next && c == 0)
+    }),
+    ("New of 0 and a first of 0", |join| {
+        join.misses(|[a, b], [next, c]| a > 0 && b == 0 && next == 0 && c > 0)
+    }),
+    ("touching within a plan", |join| {
+        join.is_written() && join.touches_within
+    }),
+    ("the one empty", |join| {
+        join.is_written() && join.one == 0 && join.other > 0
+    }),
+    ("the other empty", |join| {
+        join.is_written() && join.one > 0 && join.other == 0
+    }),
+    ("both empty", |join| {
+        join.is_written() && join.one + join.other == 0
+    }),
+    ("both the longest", |join| {
+        join.is_written() && join.one == LONGEST_PLAN && join.other == LONGEST_PLAN
+    }),
+    ("the one longer than a plan", |join| {
+        join.is_written() && join.one > LONGEST_PLAN
+    }),
+    ("the other longer than a plan", |join| {
+        join.is_written() && join.other > LONGEST_PLAN
+    }),
+    ("40, the one odd", |join| {
+        join.is_bad() && is_odd(join.one) && !is_odd(join.other)
+    }),
+    ("40, the other odd", |join| {
+        join.is_bad() && !is_odd(join.one) && is_odd(join.other)
+    }),
+    ("40 before 11", |join| join.is_bad() && join.room == 0),
+    ("11, joined", |join| {
+        join.lacks_room() && join.written() + A_PAIR == join.one + join.other
+    }),
+    ("11, appended", |join| {
+        join.lacks_room() && join.written() == join.one + join.other
+    }),
+    ("11, one number short", |join| {
+        join.lacks_room() && join.room + 1 == join.written()
+    }),
+    ("11, no room at all", |join| {
+        join.lacks_room() && join.room == 0
+    }),
+];
+
+/// A plan that is cut in two.
+struct Cutting {
+    /// Whether the numbers before and behind the cut are business.
+    before: bool,
+    behind: bool,
+    end: u32,
+    count: u32,
+}
+
+impl Cutting {
+    /// A plan over a good list.
+    fn new(list: &[u8], cut: Cut) -> Cutting {
+        let is_business = |n: u32| list[n as usize - 1] == 1;
+        Cutting {
+            before: is_business(cut.middle),
+            behind: is_business(cut.middle + 1),
+            end: cut.end,
+            count: list.len() as u32,
+        }
+    }
+
+    fn both_session(&self) -> bool {
+        !self.before && !self.behind
+    }
+
+    fn is_to_0(&self) -> bool {
+        self.end == 0
+    }
+
+    fn is_past_list(&self) -> bool {
+        self.end > self.count
+    }
+}
+
+/// What cuts must meet.
+const CUTS: [Situation<Cutting>; 9] = [
+    ("both session", |cut| cut.both_session()),
+    ("not both session", |cut| !cut.both_session()),
+    ("session, business", |cut| !cut.before && cut.behind),
+    ("business, session", |cut| cut.before && !cut.behind),
+    ("both business", |cut| cut.before && cut.behind),
+    ("both session, End of 0", |cut| {
+        cut.both_session() && cut.is_to_0()
+    }),
+    ("not both session, End of 0", |cut| {
+        !cut.both_session() && cut.is_to_0()
+    }),
+    ("both session, End past the list", |cut| {
+        cut.both_session() && cut.is_past_list()
+    }),
+    ("not both session, End past the list", |cut| {
+        !cut.both_session() && cut.is_past_list()
+    }),
+];
+
+/// A Live session that takes a gap fill from E to a New, and one from there to
+/// another New.
+struct Fills {
+    session: session::Session,
+    new: u32,
+    last_new: u32,
+}
+
+/// What two gap fills must meet.
+const FILLS: [Situation<Fills>; 8] = [
+    ("M of 0", |fills| fills.session.m == 0),
+    ("M in the first", |fills| {
+        fills.session.m != 0 && fills.session.m < fills.new
+    }),
+    ("M at the New of the first", |fills| {
+        fills.session.m == fills.new
+    }),
+    ("M in the second", |fills| {
+        fills.new < fills.session.m && fills.session.m < fills.last_new
+    }),
+    ("M at the New of the second", |fills| {
+        fills.session.m == fills.last_new
+    }),
+    ("M past both", |fills| fills.session.m > fills.last_new),
+    ("a count standing", |fills| fills.session.repeats > 0),
+    ("up to the last number", |fills| fills.last_new == LAST),
+];
+
+fn hold_join(tally: &mut Tally, one: &[u32], other: &[u32], room: usize) {
+    let mut ours = guarded(room);
+    let mut its = ours.clone();
+    let answer = planned(plan::join(one, other, &mut ours[GUARD..GUARD + room]));
+    let its_answer = proved::join(one, other, &mut its[GUARD..GUARD + room]);
+    let joining = Joining::new(one, other, room, answer);
+    note(&JOINS, &mut tally.joins, &joining);
+    tally.hold(answer.refusal, (answer, ours), (its_answer, its), || {
+        format!("join room {} one {:?} other {:?}", room, one, other)
+    });
+}
+
+/// The join into just enough room, one number less, more, and none.
+fn hold_join_everywhere(tally: &mut Tally, rng: &mut Rng, one: &[u32], other: &[u32]) {
+    let mut all = vec![0; one.len() + other.len()];
+    let needed = A_PAIR * plan::join(one, other, &mut all).unwrap_or(0);
+    let [exact, less, more] = rooms(rng, needed);
+    for room in [exact, less, more, 0] {
+        hold_join(tally, one, other, room);
+    }
+}
+
+/// The numbers that a call of the library writes into so much room; none where it
+/// refuses.
+fn library_numbers(room: usize, call: impl FnOnce(&mut [u32]) -> Planned) -> Vec<u32> {
+    let mut numbers = vec![0; room];
+    match call(&mut numbers) {
+        Planned { refusal: 0, pairs } => numbers.truncate(A_PAIR * pairs),
+        _ => numbers.clear(),
+    }
+    numbers
+}
+
+fn library_plan(list: &[u8], start: u32, end: u32) -> Vec<u32> {
+    let enough = A_PAIR * list.len();
+    library_numbers(enough, |numbers| proved::plan(list, start, end, numbers))
+}
+
+fn library_join(one: &[u32], other: &[u32]) -> Vec<u32> {
+    let enough = one.len() + other.len();
+    library_numbers(enough, |numbers| proved::join(one, other, numbers))
+}
+
+/// The numbers of the twin's plan, which is a good one.
+fn twin_plan(list: &[u8], start: u32, end: u32) -> Vec<u32> {
+    let mut pairs = vec![[0; A_PAIR]; list.len()];
+    let count = plan::plan(list, start, end, &mut pairs).expect("a good plan");
+    pairs[..count].concat()
+}
+
+/// The library's plans for the two sides of a cut. Joined by the library they are
+/// the whole plan, the twin's and its own; one behind the other they are so exactly
+/// when the numbers at the cut are not both session.
+fn hold_cut(tally: &mut Tally, rng: &mut Rng, list: &[u8], cut: Cut) {
+    let Cut { start, middle, end } = cut;
+    let one = library_plan(list, start, middle);
+    let other = library_plan(list, middle + 1, end);
+    hold_join_everywhere(tally, rng, &one, &other);
+    let cutting = Cutting::new(list, cut);
+    note(&CUTS, &mut tally.cuts, &cutting);
+    let input = |how: &str| format!("plans, {}, {:?} list {}", how, cut, hex(list));
+    let whole = library_plan(list, start, end);
+    let joined = library_join(&one, &other);
+    let wholes = [twin_plan(list, start, end), whole.clone()];
+    tally.hold(0, wholes, [joined.clone(), joined], || input("joined"));
+    let is_whole = [one, other].concat() == whole;
+    tally.hold(0, !cutting.both_session(), is_whole, || input("appended"));
+}
+
+/// The session takes a gap fill from E to a New and one from there to the last New:
+/// it is then as if it had taken one from E to the last New.
+fn hold_two_fills(tally: &mut Tally, rng: &mut Rng, fills: &Fills) {
+    note(&FILLS, &mut tally.fills, fills);
+    let Fills {
+        session,
+        new,
+        last_new,
+    } = fills;
+    let s = struct_of(session);
+    let [first, second, both] =
+        [(session.e, *new), (*new, *last_new), (session.e, *last_new)].map(|(number, new)| {
+            let poss_dup = rng.below(2) as u8;
+            let what = Sent::GapFill { new };
+            make::sent(rng, &session.comp_id, number, poss_dup, what)
+        });
+    let between = hold_step(tally, s, &first).session;
+    hold_step(tally, between, &second);
+    hold_step(tally, s, &both);
+    let in_turn = proved::step(proved::step(s, &first).session, &second);
+    let at_once = proved::step(s, &both);
+    tally.hold(0, at_once.session, in_turn.session, || {
+        let bytes = [first, second, both].map(|bytes| hex(&bytes)).join(" ");
+        format!("two gap fills against one {} {}", shown(&s), bytes)
+    });
+}
+
+/// Counts of numbers, odd and even, at none and on both sides of a plan's most.
+const PLAN_COUNTS: [usize; 9] = [
+    0,
+    1,
+    2,
+    3,
+    LONGEST_PLAN - 2,
+    LONGEST_PLAN - 1,
+    LONGEST_PLAN,
+    LONGEST_PLAN + 1,
+    LONGEST_PLAN + 2,
+];
+
+/// Plans of each of the counts, which touch, and which do not.
+fn every_length(tally: &mut Tally, rng: &mut Rng) {
+    // A plan of gap fills that begins at this number: every pair touches the next.
+    let fills = |first: u32, count: usize| -> Vec<u32> {
+        let numbers = (first..).flat_map(|n| [n, n + 1]);
+        numbers.take(count).collect()
+    };
+    for one in PLAN_COUNTS {
+        let next = 1 + (one / A_PAIR) as u32;
+        for other in PLAN_COUNTS {
+            for first in [next, next + 1] {
+                hold_join_everywhere(tally, rng, &fills(1, one), &fills(first, other));
+            }
+        }
+    }
+}
+
+/// The numbers of the pairs where two plans meet.
+const MEETING: [u32; 6] = [0, 1, 2, 3, LAST - 1, LAST];
+
+/// Every meeting of two pairs, and of such a pair and nothing.
+fn every_meeting(tally: &mut Tally, rng: &mut Rng) {
+    let mut pairs = Vec::new();
+    for first in MEETING {
+        pairs.extend(MEETING.map(|new| [first, new]));
+    }
+    hold_join_everywhere(tally, rng, &[], &[]);
+    for last in &pairs {
+        hold_join_everywhere(tally, rng, last, &[]);
+        hold_join_everywhere(tally, rng, &[], last);
+        for next in &pairs {
+            hold_join_everywhere(tally, rng, last, next);
+        }
+    }
+}
+
+/// Lists up to this length are cut in every way.
+const CUT_LISTS: u32 = 5;
+
+/// Every plan over every short list, cut everywhere, with every End within the list,
+/// of 0 and past it.
+fn every_cut(tally: &mut Tally, rng: &mut Rng) {
+    for count in 0..=CUT_LISTS {
+        let lists =
+            (0..1_u32 << count).map(|bits| (0..count).map(move |at| (bits >> at & 1) as u8));
+        for list in lists.map(|list| list.collect::<Vec<u8>>()) {
+            for start in 1..=count {
+                for middle in start..count {
+                    let ends = (middle + 1..=count).chain([0, count + 1, LAST]);
+                    for end in ends {
+                        hold_cut(tally, rng, &list, Cut { start, middle, end });
+                    }
+                }
+            }
+        }
+    }
+}
+
+/// The farthest that M lies from E: past every New that is near it.
+const FARTHEST_AHEAD: u32 = 5;
+
+/// Two gap fills to sessions with no M, and with M on all sides of both News and
+/// every count of repeats.
+fn every_two_fills(tally: &mut Tally, rng: &mut Rng) {
+    for e in [1, 2, 7, LAST - 4, LAST - 3] {
+        for (new, last_new) in [
+            (e + 1, e + 2),
+            (e + 1, e + 3),
+            (e + 2, e + 3),
+            (e + 1, LAST),
+        ] {
+            let session = session::Session {
+                e,
+                ..some_live(rng)
+            };
+            let mut sessions = vec![session.clone()];
+            for from_e in 0..=FARTHEST_AHEAD {
+                sessions.extend((0..=MOST_REPEATS).map(|repeats| session::Session {
+                    m: e.saturating_add(from_e).max(2),
+                    repeats,
+                    ..session.clone()
+                }));
+            }
+            for session in sessions {
+                let fills = Fills {
+                    session,
+                    new,
+                    last_new,
+                };
+                hold_two_fills(tally, rng, &fills);
+            }
+        }
+    }
+}
+
+/// A Live session that has asked for nothing, with an O that leaves it free to have
+/// asked and asked again.
+fn some_live(rng: &mut Rng) -> session::Session {
+    session::Session {
+        phase: Phase::Live,
+        comp_id: make::comp_id(rng),
+        e: rng.any_u32().clamp(1, LAST - 2),
+        o: rng.any_u32().max(ASKED_ONCE + MOST_REPEATS),
+        m: 0,
+        repeats: 0,
+    }
+}
+
+/// Two gap fills from E, with some M or none.
+fn some_fills(rng: &mut Rng) -> Fills {
+    let mut session = some_live(rng);
+    if rng.chance(80) {
+        open_hole(rng, &mut session);
+    }
+    let above = |rng: &mut Rng, n: u32, most: u32| match rng.below(4) {
+        0 => rng.any_u32().clamp(n + 1, most),
+        _ => n.saturating_add(1 + rng.below(3) as u32).min(most),
+    };
+    let new = above(rng, session.e, LAST - 1);
+    let last_new = above(rng, new, LAST);
+    Fills {
+        session,
+        new,
+        last_new,
+    }
+}
+
+/// A list to be cut, mostly a short one; none where it has too few numbers.
+fn list_to_cut(rng: &mut Rng) -> Option<Vec<u8>> {
+    let most = match rng.below(200) {
+        0 => plan::LONGEST_LIST,
+        1..=10 => 1000,
+        _ => 30,
+    };
+    let list = make::good_list(rng, most);
+    (list.len() >= make::LEAST_CUT).then_some(list)
+}
+
+fn joins(tally: &mut Tally, rng: &mut Rng, until: u64) {
+    every_meeting(tally, rng);
+    every_cut(tally, rng);
+    every_length(tally, rng);
+    every_two_fills(tally, rng);
+    let until = tally.count() + until;
+    while tally.count() < until {
+        let [one, other] = make::two_plans(rng);
+        hold_join_everywhere(tally, rng, &one, &other);
+        if let Some(list) = list_to_cut(rng) {
+            let cut = make::cut(rng, list.len() as u32);
+            hold_cut(tally, rng, &list, cut);
+        }
+        let fills = some_fills(rng);
+        hold_two_fills(tally, rng, &fills);
     }
 }
 
@@ -2516,6 +3053,7 @@ fn main() {
         decimals,
         many_messages,
         holes,
+        joins,
         texts,
         versions,
     ];

@@ -8,7 +8,7 @@ use lib.Seq.{length-take-le}
 use borrow.Author.Needs.{needs}
 use borrow.Author.Tests.{not-true, not-false}
 use Rattle.plan.specs.Plan.{partsFrom, partsOf, isRequest}
-use Rattle.plan.proofs.PlanLaws.{Request, requested, parts-at-start, plan-refused, plan-no-room, plan-wrote}
+use Rattle.plan.proofs.PlanLaws.{Request, requested, parts-at-start, refused, no-room, wrote}
 use Rattle.plan.proofs.plan.Statement.{statement}
 use Rattle.plan.proofs.plan.Tie as tie
 
@@ -45,7 +45,7 @@ is-request-requires c κs = search needs
 returns : tie.Need-returns
 returns c =
     let a = c .before .before .before .before .args in
-    plan-refused (a .list .now) (a .s) (a .e) (a .d .now) (sym (c .before .is-request .ensures) ∙ not-true _ (c .if1 .taken))
+    refused (partsOf (a .list .now) (a .s) (a .e)) (a .d .now) (sym (c .before .is-request .ensures) ∙ not-true _ (c .if1 .taken))
 
 last-number-requires : tie.Need-last-number-requires
 last-number-requires c κs = search needs
@@ -69,7 +69,7 @@ returns-2 : tie.Need-returns-2
 returns-2 c =
     let u = c .before .before in
     let a = u .before .before .before .before .before .before .args in
-    plan-no-room (a .list .now) (a .s) (a .e) (a .d .now) (accepted u) _ (named u) (c .before .count-parts .result) (c .before .count-parts .ensures .0) (c .if2 .taken)
+    no-room (a .d .now) (accepted u) _ (named u) (c .before .count-parts .result) (c .before .count-parts .ensures .0) (c .if2 .taken)
 
 write-parts-requires : tie.Need-write-parts-requires
 write-parts-requires c κs =
@@ -84,7 +84,7 @@ returns-3 c =
     let e = c .before .before .before .before in
     let u = e .before .before in
     let a = u .before .before .before .before .before .before .args in
-    plan-wrote (a .list .now) (a .s) (a .e) (a .d .now) (accepted u) _ (named u) (e .before .count-parts .result) (e .before .count-parts .ensures .0)
+    wrote (a .d .now) (accepted u) _ (named u) (e .before .count-parts .result) (e .before .count-parts .ensures .0)
     (e .if2 .left) _ (c .before .before .write-parts .ensures)
 
 pub plan-spec : {M : Type 1} → statement M
