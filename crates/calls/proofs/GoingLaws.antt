@@ -8,7 +8,7 @@ use native.Mathlib.Omega.{arith}
 use lib.ListN.{length, take, drop, length-drop}
 use lib.Seq.{drop-drop}
 use Rattle.wire.specs.Laying.{laid}
-use Rattle.fields.proofs.BufferLaws.{length-laid, lentFrom, Front, front-on, front-own}
+use Rattle.wire.proofs.BufferLaws.{length-laid, lentFrom, Front, front-on, front-own}
 use Rattle.wire.proofs.TestLaws.{rest-of}
 use Rattle.message.specs.Frame.{frontLength}
 use Rattle.session.specs.declared.state.Code.{Code}

@@ -6,7 +6,7 @@ use native.Mathlib.Omega.{arith}
 use lib.ListN.{length, take, drop, set, length-append, length-drop}
 use borrow.Author.Tests.{eq-eqb, ne-eqb}
 use Rattle.wire.specs.Laying.{laid}
-use Rattle.fields.proofs.BufferLaws.{laid-there, lentFrom, laid-behind, Front, front-own}
+use Rattle.wire.proofs.BufferLaws.{laid-there, lentFrom, laid-behind, Front, front-own}
 use Rattle.wire.proofs.TestLaws.{rest-of}
 use Rattle.session.specs.declared.state.Answer.{Answer}
 use Rattle.session.specs.declared.state.Row.{Row}

@@ -11,7 +11,7 @@ use Rattle.tables.specs.declared.table.Row.{Row}
 use Rattle.wire.specs.Laying.{laid}
 use Rattle.fields.specs.Words.{ClearFrom}
 use Rattle.fields.specs.Cut.{extentOf, Piece, cutAt, cut, headOf}
-use Rattle.fields.proofs.BufferLaws.{length-laid, lentFrom, Front, front-on, front-own}
+use Rattle.wire.proofs.BufferLaws.{length-laid, lentFrom, Front, front-on, front-own}
 use Rattle.fields.proofs.HeadLaws.{Ahead, Found, ahead-start, ahead-none, ahead-first, positions-low}
 use Rattle.fields.proofs.PositionLaws.{later}
 

@@ -1,4 +1,3 @@
-pub mod BufferLaws
 pub mod BytesLaws
 pub mod CheckLaws
 pub mod CopyLaws

@@ -40,7 +40,7 @@ use Rattle.fields.specs.Check.{checkRow}
 use Rattle.fields.specs.Cut.{headPositions, positions, extentOf, Piece, cutAt, cut, headOf}
 use Rattle.fields.specs.Shapes.{shapeIn, shapeOf, shapeAt}
 use Rattle.fields.specs.Value.{numberValue, decimalValue, textValue, sortValue, fieldValue, rowValue, valueIn}
-use Rattle.fields.proofs.BufferLaws.{lentFrom}
+use Rattle.wire.proofs.BufferLaws.{lentFrom}
 use Rattle.fields.proofs.CheckLaws.{row-good}
 use Rattle.fields.proofs.FillLaws.{Each, Filled, fill-start, fill-same, fill-within, fill-fits, fill-on, fill-end}
 use Rattle.fields.proofs.HeadLaws.{Ahead, Found, ahead-start, ahead-first, positions-low, positions-count}

@@ -2,15 +2,14 @@
 use Prim.Native.Nat.{ℕ, suc, _+_, _-_, _*_, _/_, _%_, _≤_, _<_}
 use mathlib.Core.Path.{_≡_, refl, sym, ap, ap₂, subst, _∙_}
 use mathlib.Core.Bool.{Bool, true, false, cond}
-use mathlib.Core.List.{List, [], _∷_, _++_, append-assoc, append-nil}
+use mathlib.Core.List.{List, [], _∷_, _++_}
 use native.Mathlib.Omega.{arith}
 use lib.Dec.{eqb, ltb}
-use lib.ListN.{length, getD, set, take, drop, length-append, length-set, length-drop, drop-of-length-le}
-use lib.Seq.{take-append-seam, drop-append-seam, drop-drop, set-append-left}
-use borrow.Rule.Slice.PartMut.{putMid}
+use lib.ListN.{length, getD, set, drop, length-append, length-set, length-drop}
+use lib.Seq.{set-append-left}
 use borrow.Author.Tests.{le-ltb, ltb-false, eq-eqb, ne-eqb, eqb-true}
 use Rattle.wire.specs.Laying.{atFront}
-use Rattle.wire.proofs.TestLaws.{either, rest-of}
+use Rattle.wire.proofs.TestLaws.{either}
 use Rattle.plan.specs.Plan.{Part, gapFill, pairs, paired}
 use Rattle.plan.specs.Join.{touch, before, join, partsIn, isPairs, joined, seam}
 
@@ -132,22 +131,6 @@ module _ (one other : List ℕ) (h : isPairs one ≡ true) (l : isPairs other �
   joined-pairs = omega (arith, joined-length)
 
 -- ---- writing
-
--- one list of numbers at the front of d makes x; more go into its part behind them, and y is that part afterwards
-pub both-laid : (one more d x y : List ℕ) → x ≡ atFront one d → y ≡ atFront more (take (length x - length one) (drop (length one) x))
-    → putMid (length one) (length x - length one) x y ≡ atFront (one ++ more) d
-both-laid one more d x y e f =
-    let v = drop (length one) d in
-    let behind : drop (length one) x ≡ v = ap (drop (length one)) e ∙ drop-append-seam one v in
-    let front : take (length one) x ≡ one = ap (take (length one)) e ∙ take-append-seam one v in
-    let n : length x - length one ≡ length v = omega (arith, ap length e, length-append one v) in
-    let part : take (length x - length one) (drop (length one) x) ≡ v = rest-of x (length one) ∙ behind in
-    let nothing : drop (length x - length one) (drop (length one) x) ≡ [] =
-    ap₂ (λ (i : ℕ) (z : List ℕ). drop i z) n behind ∙ drop-of-length-le v {i = length v} (omega arith) in
-    let y-is : y ≡ more ++ drop (length one + length more) d =
-    f ∙ ap (λ (z : List ℕ). more ++ drop (length more) z) part ∙ ap (λ (z : List ℕ). more ++ z) (drop-drop (length more) (length one) d) in
-    ap₂ (λ (a b : List ℕ). a ++ b) front (ap₂ (λ (a b : List ℕ). a ++ b) y-is nothing ∙ append-nil (more ++ drop (length one + length more) d))
-    ∙ sym (append-assoc one more (drop (length one + length more) d)) ∙ ap (λ (k : ℕ). (one ++ more) ++ drop k d) (sym (length-append one more))
 
 -- the joined plan at the front of d, from the one's numbers and those of the other that do not fall away
 module _ (one other d : List ℕ) (h : isPairs one ≡ true) (l : isPairs other ≡ true) (x : List ℕ) where

@@ -17,6 +17,7 @@ unfoldable pub before : Part → List Part → List Part
 before p [] = p ∷ []
 before p (q ∷ qs) = cond (touch p q) (gapFill (p .first) (q .new) ∷ qs) (p ∷ q ∷ qs)
 
+-- the one plan, and the other behind it
 unfoldable pub join : List Part → List Part → List Part
 join [] qs = qs
 join (p ∷ []) qs = before p qs
@@ -34,6 +35,7 @@ partsIn (first ∷ new ∷ ns) = record { first = first; new = new } ∷ partsIn
 unfoldable pub isPairs : List ℕ → Bool
 isPairs ns = eqb (length ns % 2) 0
 
+-- the parts of two plans that are lent so, joined
 abbrev pub joined : List ℕ → List ℕ → List Part
 joined one other = join (partsIn one) (partsIn other)
 
@@ -44,7 +46,7 @@ joinOf one other = answered (isPairs one && isPairs other) (joined one other)
 abbrev pub joinedIn : List ℕ → List ℕ → List ℕ → List ℕ
 joinedIn one other = pairedIn (isPairs one && isPairs other) (joined one other)
 
--- how many of the other's numbers fall away: its first pair, where the one's last touches it
+-- what the code looks at: how many of the other's numbers fall away, its first pair where the one's last touches it
 unfoldable pub seam : List ℕ → List ℕ → ℕ
 seam one other =
     cond (ltb (length one) 2) 0 (
@@ -61,6 +63,7 @@ planPairs list s e = pairs (partsOf list s e)
 unfoldable pub isSession : List ℕ → ℕ → Bool
 isSession list n = not (eqb (getD list (n - 1) 0) 1)
 
+-- m and m + 1 are both session numbers
 abbrev pub bothSession : List ℕ → ℕ → Bool
 bothSession list m = isSession list m && isSession list (m + 1)
 

@@ -3,14 +3,13 @@
 use mathlib.Core.Path.{_≡_, refl, sym, ap, ap₂, _∙_, subst}
 use Prim.Native.Nat.{ℕ, zero, suc, _+_, _-_, _<_, _≤_}
 use native.Mathlib.Nat.{sub-zero}
-use native.Mathlib.Numerals.{add-one}
 use native.Mathlib.Omega.{arith}
 use mathlib.Core.Bool.{Bool, true, false, cond}
 use mathlib.Core.List.{List, [], _∷_, _++_, append-assoc, append-nil}
 use lib.Dec.{ltb, leb}
-use lib.ListN.{length, getD, take, drop, length-append, length-drop, drop-of-length-le}
-use lib.Seq.{drop-cons, drop-drop, take-at, drop-at, length-take-le}
-use borrow.Author.Tests.{eq-eqb, ne-eqb, lt-ltb, le-ltb, le-leb, lt-leb, leb-true, leb-false}
+use lib.ListN.{length, take, drop, length-append, length-drop}
+use lib.Seq.{drop-drop, drop-at, length-take-le}
+use borrow.Author.Tests.{lt-ltb, le-ltb, le-leb, lt-leb, leb-true, leb-false}
 use borrow.Rule.Slice.PartMut.{putMid, put-same}
 use Rattle.wire.specs.declared.laying.Laid.the-variants as Laid
 use Rattle.wire.specs.Laying.{laid, laidAnswer, refusal, besides}
@@ -26,6 +25,7 @@ use Rattle.sheet.specs.Line.{saidOf}
 use Rattle.sheet.specs.Print.{printed, printedBad}
 use Rattle.sheet.specs.Sheet.{messageOf, linesOf, nextCount, Sheet, ended, followed, lineSaid, sheetFrom, sheetOf}
 use Rattle.spelt.specs.Lines.{lineLength}
+use Rattle.wire.proofs.BufferLaws.{front-behind}
 use Rattle.wire.proofs.TestLaws.{rest-of}
 
 -- any number of lines that is not too small gives all
@@ -165,17 +165,8 @@ module _ (d₀ d text bs y : List ℕ) (w : ℕ) (q : w ≡ length text) (f : le
   unfolding laid
   laid-next h =
       let x = take (length d - w) (drop w d) in
-      let v = drop (length text) d₀ in
       let l : length bs ≤ length x = omega (arith, room-left) in
-      let xv : x ≡ v = rest-of d w ∙ behind in
-      let yv : y ≡ bs ++ drop (length bs) v = p ∙ rw (le-leb (length bs) (length x) l) (ap (λ (z : List ℕ). bs ++ drop (length bs) z) xv) in
-      let front : take w d ≡ text = ap₂ (λ (i : ℕ) (z : List ℕ). take i z) q e ∙ take-at text v (length text) refl in
-      let m : length (drop w d) ≤ length d - w = rw length-drop (omega arith) in
-      let none : drop (length d - w) (drop w d) ≡ [] = drop-of-length-le (drop w d) m in
-      let whole : drop (length bs) v ≡ drop (length (text ++ bs)) d₀ = drop-drop (length bs) (length text) d₀ ∙ ap (λ (i : ℕ). drop i d₀) (sym (length-append text bs)) in
-      ap₂ (λ (a z : List ℕ). a ++ (y ++ z)) front none
-      ∙ ap (λ (z : List ℕ). text ++ z) (append-nil y ∙ yv ∙ ap (λ (z : List ℕ). bs ++ z) whole)
-      ∙ sym (append-assoc text bs (drop (length (text ++ bs)) d₀))
+      front-behind text bs d₀ d y w (sym q) (omega arith) e (p ∙ rw (le-leb (length bs) (length x) l) refl)
 
 -- the lines before `used` are taken, and what they print is laid in d
 pub record Taking (d₀ bytes : List ℕ) (s₀ : Session) (k₀ : ℕ) (d : List ℕ) (s : Session) (k used written : ℕ) : Type 0 where

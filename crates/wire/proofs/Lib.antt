@@ -1,6 +1,7 @@
 pub mod TestLaws
 pub mod DecimalLaws
 pub mod LayingLaws
+pub mod BufferLaws
 pub mod MapLaws
 pub mod NumberLaws
 pub mod SearchLaws

@@ -11,7 +11,7 @@ use Rattle.wire.specs.declared.laying.Laid.{Laid}
 use Rattle.wire.specs.Laying.{besides, laid, laidAnswer}
 use Rattle.fields.specs.Cut.{Piece, extentOf}
 use Rattle.fields.specs.Plain.{plainRow, plainPieces}
-use Rattle.fields.proofs.BufferLaws.{besides-laid, lentFrom}
+use Rattle.wire.proofs.BufferLaws.{besides-laid, lentFrom}
 use Rattle.fields.proofs.FillLaws.{Each, Filled, fill-fits, fill-on}
 
 -- all pieces in plain form, and one

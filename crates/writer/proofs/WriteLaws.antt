@@ -30,7 +30,7 @@ use Rattle.writer.specs.declared.write.Written.{Written}
 use Rattle.writer.specs.declared.write.Written.the-variants.{Wrote, Refused}
 use Rattle.writer.specs.Plain.{headBytes, sealed, messageBytes, plainMessage}
 use Rattle.writer.specs.Write.{writeLength, writeVetted, writeOf, afterWriting, written}
-use Rattle.fields.proofs.BufferLaws.{lentFrom, laid-there, take-laid, Front, front-on, number-on, front-own, laid-over}
+use Rattle.wire.proofs.BufferLaws.{lentFrom, laid-there, take-laid, Front, front-on, number-on, front-own, laid-over}
 use Rattle.writer.proofs.FieldsLaws.{fields-length}
 use Rattle.writer.proofs.HeadLaws.{length-head}
 

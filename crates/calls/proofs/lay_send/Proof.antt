@@ -5,7 +5,7 @@ use Prim.Native.Nat.{ℕ, _≤_}
 use native.Mathlib.Omega.{arith}
 use lib.ListN.{length, set, length-set}
 use Rattle.wire.specs.Laying.{laid}
-use Rattle.fields.proofs.BufferLaws.{front-own}
+use Rattle.wire.proofs.BufferLaws.{front-own}
 use Rattle.session.specs.declared.state.Figures.{Figures}
 use Rattle.session.specs.declared.state.Send.{Send}
 use Rattle.session.specs.State.{told}

@@ -1,6 +1,8 @@
 -- `plan::lay_both` meets its contract: the more are laid in the part behind the one's.
+use mathlib.Core.Path.{refl}
+use lib.ListN.{length}
 use borrow.Author.Needs.{needs}
-use Rattle.plan.proofs.JoinPairs.{both-laid}
+use Rattle.wire.proofs.BufferLaws.{front-behind}
 use Rattle.plan.proofs.lay_both.Statement.{statement}
 use Rattle.plan.proofs.lay_both.Tie as tie
 
@@ -29,7 +31,8 @@ returns : tie.Need-returns
 returns c =
     let l = c .before .before .before .before .before .before in
     let a = l .before .before .before .before .before .args in
-    both-laid (a .one .now) (a .more .now) (a .d .now) (l .lay .last .1 .0) (c .before .before .lay2 .last .1 .0) (l .lay .ensures) (c .before .before .lay2 .ensures)
+    front-behind (a .one .now) (a .more .now) (a .d .now) (l .lay .last .1 .0) (c .before .before .lay2 .last .1 .0) (length (a .one .now)) refl
+    (l .before .before .before .before .before .pre) (l .lay .ensures) (c .before .before .lay2 .ensures)
 
 pub lay-both-spec : {M : Type 1} → statement M
 lay-both-spec =

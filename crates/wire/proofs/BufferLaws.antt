@@ -8,13 +8,13 @@ use borrow.Author.Tests.{le-leb}
 use lib.Dec.{leb}
 use lib.ListN.{length, take, drop, drop-of-length-le, length-append, length-drop, take-append-drop}
 use lib.Seq.{take-at, drop-at, drop-drop, length-take-le}
 use Rattle.wire.specs.declared.text.Allowed.{Allowed}
 use Rattle.wire.specs.declared.laying.Laid.the-variants.{Wrote, NoRoom}
-use Rattle.wire.specs.Laying.{besides, laid, laidAnswer}
+use Rattle.wire.specs.Laying.{atFront, besides, laid, laidAnswer}
 use Rattle.wire.specs.Number.{numberBytes}
 use Rattle.wire.specs.Text.{takes, fixedBytes, fixedLaid}
 use Rattle.wire.proofs.NumberLaws.{length-numberBytes}
 use Rattle.wire.proofs.TestLaws.{rest-of}
 
 module _ (e d : List ℕ) (h : length e ≤ length d) where
   pub laid-there : laid e d ≡ e ++ drop (length e) d
@@ -69,6 +69,16 @@ laid-behind w e d x y a l h p q =
     lent-laid a x e (omega arith) y q
     ∙ ap₂ (λ (z s : List ℕ). z ++ (e ++ s)) t v
     ∙ sym (append-assoc w e (drop (length (w ++ e)) d)) ∙ sym (laid-there (w ++ e) d (omega arith))
+
+-- the same of a writer that was lent enough room
+pub front-behind : (w e d x y : List ℕ) (a : ℕ) → length w ≡ a → a + length e ≤ length d → x ≡ atFront w d
+    → y ≡ atFront e (take (length x - a) (drop a x)) → lentFrom a x y ≡ atFront (w ++ e) d
+front-behind w e d x y a l h p q =
+    let i : length w ≤ length d = omega arith in
+    let m : length x ≡ length d = ap length (p ∙ sym (laid-there w d i)) ∙ length-laid w d i in
+    let r : length (take (length x - a) (drop a x)) ≡ length x - a = ap length (rest-of x a) ∙ length-drop a x in
+    laid-behind w e d x y a l h (p ∙ sym (laid-there w d i)) (q ∙ sym (laid-there e (take (length x - a) (drop a x)) (omega arith)))
+    ∙ laid-there (w ++ e) d (omega (arith, length-append w e))
 
 -- x is the buffer d with w, which has a bytes, laid at its front
 pub record Front (w : List ℕ) (a : ℕ) (d x : List ℕ) : Type 0 where
