@@ -1,7 +1,7 @@
 #!/usr/bin/env python3
-"""The sample day of examples/day.txt, as bytes.
+"""The sample day of examples/day.txt and the lists of runs/lists.txt, as bytes.
 
-    tools/sample_day.py            says whether examples/day-1.bin and day-2.bin are those bytes
+    tools/sample_day.py            says whether examples/day-1.bin and day-2.bin and the runs of the lists are those bytes
     tools/sample_day.py --write    writes them
 """
 import pathlib
@@ -10,17 +10,23 @@ import sys
 from worked_hand import blocks, join, must
 
 ROOT = pathlib.Path(__file__).resolve().parent.parent
-EXAMPLES = ROOT / "examples"
+BY_NAME = {lines[0][1]: lines for _, lines in blocks("messages.txt")}
 
 
-def message(blocks_by_name, name, number, dup, *changes):
-    lines = [list(line) for line in blocks_by_name[name]]
+WORDS = {"spoil", "resend", "cut"}
+
+
+def message(name, number, dup, *changes):
+    must(name in BY_NAME, f"{name} {number}")
+    lines = [list(line) for line in BY_NAME[name]]
     change = dict(c.split("=") for c in changes if "=" in c)
+    for word in change.keys() | {c for c in changes if "=" not in c}:
+        must(word in WORDS or word in {line[0] for line in lines}, f"{name} {number}: {word}")
     for line in lines:
         if line[0] == "number":
             line[1] = number
         if line[0] == "flags":
-            line[1] = f"{dup} 0"
+            line[1] = f"{dup} {int('resend' in changes)}"
         if line[0] in change:
             line[1] = change[line[0]]
     data = bytearray(join([tuple(line) for line in lines])[0])
@@ -29,27 +35,49 @@ def message(blocks_by_name, name, number, dup, *changes):
     return bytes(data[:int(change.get("cut", len(data)))])
 
 
+def lines_of(name):
+    """The words of each line of a file, and its text, without remarks."""
+    for line in (ROOT / name).read_text().splitlines():
+        if line.split() and not line.startswith("#"):
+            yield line.split(), line
+
+
 def connections():
-    by_name = {lines[0][1]: lines for _, lines in blocks("messages.txt")}
     made = {}
-    for line in (EXAMPLES / "day.txt").read_text().splitlines():
-        words = line.split()
-        if not words or words[0] == "#" or line.startswith("#"):
-            continue
+    for words, _ in lines_of("examples/day.txt"):
         if words[0] == "connection":
-            part = f"day-{words[1]}.bin"
+            part = f"examples/day-{words[1]}.bin"
             made[part] = b""
         else:
-            must(words[0] in by_name, line)
-            made[part] += message(by_name, *words)
+            made[part] += message(*words)
+    return made
+
+
+def lists():
+    """The bench's input and output of each list. What stands on standard error is marked as tools/runs marks it."""
+    made = {}
+    for words, line in lines_of("runs/lists.txt"):
+        if words[0] == "list":
+            part, answer = (f"runs/bench/{words[1]}.{end}" for end in ("in", "out"))
+            made[part], made[answer] = " ".join(words[2:]).encode() + b"\n", b""
+        elif words[0] == "sends":
+            part = answer
+        elif words[0] == "says":
+            made[answer] = f"on standard error: {line.removeprefix('says ')}\n".encode()
+        else:
+            made[part] += message(*words)
+    for name, data in made.items():
+        must(data, f"{name}: neither sends nor says")
     return made
 
 
 if __name__ == "__main__":
     if sys.argv[1:] not in ([], ["--write"]):
         sys.exit("usage: tools/sample_day.py [--write]")
-    for name, data in connections().items():
-        if sys.argv[1:] == ["--write"]:
-            (EXAMPLES / name).write_bytes(data)
-        elif not (EXAMPLES / name).exists() or (EXAMPLES / name).read_bytes() != data:
-            sys.exit(f"examples/{name} is not what examples/day.txt says: run tools/sample_day.py --write")
+    for source, made in (("examples/day.txt", connections()), ("runs/lists.txt", lists())):
+        for name, data in made.items():
+            file = ROOT / name
+            if sys.argv[1:] == ["--write"]:
+                file.write_bytes(data)
+            elif not file.exists() or file.read_bytes() != data:
+                sys.exit(f"{name} is not what {source} says: run tools/sample_day.py --write")

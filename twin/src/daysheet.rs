@@ -24,7 +24,7 @@ struct Line {
 }
 
 /// Decimal digits, at least one, at most 32 bits.
-fn number(text: &[u8]) -> Option<u32> {
+pub fn number(text: &[u8]) -> Option<u32> {
     if text.is_empty() {
         return None;
     }

@@ -4,12 +4,15 @@
 //! so that texts may carry bytes after their null.
 
 use crate::crc::crc32c;
+use crate::gateway::is_business;
 use crate::plan::A_PAIR;
 use crate::reader;
 use crate::session::{self, Phase, Session, LAST};
 use crate::tables::{self, types, Field, Sort};
 use crate::wire::{self, set, Allowed};
-use crate::wire::{BODY_AT, COMP_ID_WIDTH, LEAST, MAP_AT, MAP_WIDTH, MOST, START, TRAILER};
+use crate::wire::{
+    BODY_AT, COMP_ID_AT, COMP_ID_WIDTH, LEAST, MAP_AT, MAP_WIDTH, MOST, START, TRAILER,
+};
 use crate::writer::{HeadValues, ToWrite};
 use std::ops::Range;
 
@@ -784,14 +787,9 @@ pub fn arrival(rng: &mut Rng, session: &Session) -> Vec<u8> {
             _ => given.message_type = message_type(rng),
         }
     }
-    // Another Comp ID: anything, one that ours begins, one that begins ours.
     let other;
     if rng.chance(2) {
-        other = match rng.below(3) {
-            0 => self::comp_id(rng),
-            1 => comp_id[..comp_id.len().max(2) - 1].to_vec(),
-            _ => [comp_id, b"X"].concat()[..(comp_id.len() + 1).min(11)].to_vec(),
-        };
+        other = other_comp_id(rng, comp_id);
         given.comp_id = &other;
     }
     let mut bytes = message_with(rng, &given, &fixed);
@@ -1154,6 +1152,75 @@ pub fn cut(rng: &mut Rng, count: u32) -> Cut {
         _ => within(rng, middle, count) + 1,
     };
     Cut { start, middle, end }
+}
+
+/// Every list of so many numbers, each business or session.
+pub fn every_list(count: u32) -> impl Iterator<Item = Vec<u8>> {
+    (0..1_u32 << count).map(move |bits| (0..count).map(|at| (bits >> at & 1) as u8).collect())
+}
+
+// ---- Published lists (document 02, item 14) ----
+
+/// A gateway's list: messages of all types with the numbers 1, 2, .. and one Comp
+/// ID, of which the marks say whether each is business (1) or session (0).
+pub fn published(rng: &mut Rng, comp_id: &[u8], marks: &[u8]) -> Vec<Vec<u8>> {
+    let mut all = Vec::new();
+    for (number, &mark) in (1..).zip(marks) {
+        let message_type = loop {
+            let any = message_type(rng);
+            if is_business(any) == (mark == 1) {
+                break any;
+            }
+        };
+        all.push(message(rng, message_type, number, comp_id));
+    }
+    all
+}
+
+/// Another Comp ID: anything, one that this one begins, one that begins this one.
+fn other_comp_id(rng: &mut Rng, comp_id: &[u8]) -> Vec<u8> {
+    match rng.below(3) {
+        0 => self::comp_id(rng),
+        1 => comp_id[..comp_id.len().max(2) - 1].to_vec(),
+        _ => [comp_id, b"X"].concat()[..(comp_id.len() + 1).min(11)].to_vec(),
+    }
+}
+
+/// Makes one thing of a list wrong: a message is damaged, bears another number, has
+/// another Comp ID, stands there twice or not at all, or the last is cut short.
+pub fn spoil_published(rng: &mut Rng, comp_id: &[u8], list: &mut Vec<Vec<u8>>) {
+    const NUMBER: Range<usize> = 4..8;
+    if list.is_empty() {
+        return;
+    }
+    let at = rng.index(list.len());
+    let is_whole = list[at].len() >= LEAST;
+    match rng.below(6) {
+        0 if is_whole => {
+            let number = [at as u32, at as u32 + 2, rng.any_u32()][rng.index(3)];
+            list[at][NUMBER].copy_from_slice(&number.to_le_bytes());
+            reseal(&mut list[at]);
+        }
+        1 if is_whole => {
+            let other = other_comp_id(rng, comp_id);
+            let other = fixed_text(rng, &other, COMP_ID_WIDTH);
+            list[at][COMP_ID_AT..MAP_AT].copy_from_slice(&other);
+            reseal(&mut list[at]);
+        }
+        2 => {
+            let twice = list[at].clone();
+            list.insert(at, twice);
+        }
+        3 => {
+            list.remove(at);
+        }
+        4 => {
+            let last = list.len() - 1;
+            let rest = rng.index(list[last].len() + 1);
+            list[last].truncate(rest);
+        }
+        _ => list[at] = spoil(rng, &list[at]),
+    }
 }
 
 /// A number at another one or near it, mostly above it, or 0. Past the last it

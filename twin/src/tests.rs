@@ -1,4 +1,5 @@
 use crate::daysheet::daysheet;
+use crate::gateway::{self, Asked, Wrong};
 use crate::make::{self, Event, Given, Rng, Sent, Text};
 use crate::plan::{join, plan, A_PAIR, BAD_PLAN, LONGEST_LIST, LONGEST_PLAN};
 use crate::reader::{self, Value, A_FIELD};
@@ -1207,11 +1208,6 @@ fn joined(one: &[u32], other: &[u32]) -> Vec<u32> {
 /// Lists up to this length are cut in every way.
 const CUT_LISTS: u32 = 8;
 
-/// Every list of so many numbers.
-fn every_list(count: u32) -> impl Iterator<Item = Vec<u8>> {
-    (0..1_u32 << count).map(move |bits| (0..count).map(|at| (bits >> at & 1) as u8).collect())
-}
-
 /// The plan for s to m followed by the plan for m + 1 to e is the plan for s to e
 /// exactly when m and m + 1 are not both session numbers; joined it always is. An
 /// End of 0 or past the list stands for its last number.
@@ -1229,7 +1225,7 @@ fn cut_and_joined(list: &[u8], start: u32, middle: u32, end: u32) {
 #[test]
 fn plans_join() {
     for count in 0..=CUT_LISTS {
-        for list in every_list(count) {
+        for list in make::every_list(count) {
             for start in 1..=count {
                 for middle in start..count {
                     let ends = (middle + 1..=count).chain([0, count + 1, LAST]);
@@ -3196,6 +3192,324 @@ fn many_as_single_steps() {
     );
     assert!(steps > 3_000 * 5, "{}", steps);
     assert!(told_besides > 10, "{}", told_besides);
+}
+
+// ---- Both ends meet (document 02, item 14) ----
+
+fn heartbeat(n: u32) -> Vec<u8> {
+    framed(0, n, &[], &[])
+}
+
+/// The message under another Comp ID.
+fn under(comp_id: &[u8], mut bytes: Vec<u8>) -> Vec<u8> {
+    bytes[10..22].copy_from_slice(&padded(comp_id, 12));
+    make::reseal(&mut bytes);
+    bytes
+}
+
+/// The message with PossResend 1.
+fn resent(mut bytes: Vec<u8>) -> Vec<u8> {
+    bytes[9] = 1;
+    make::reseal(&mut bytes);
+    bytes
+}
+
+/// Session, business, session, session, business.
+fn small_list() -> [Vec<u8>; 5] {
+    [
+        logon(1, 1),
+        business(2),
+        heartbeat(3),
+        test_request(4),
+        business(5),
+    ]
+}
+
+/// The plan's figure of document 01 as bytes.
+#[test]
+fn sending_a_worked_list() {
+    let gap_fill: Vec<u8> = [
+        // Length 63, type 4, number 3, PossDup 1, PossResend 0.
+        &[2, 63, 0, 4, 3, 0, 0, 0, 1, 0][..],
+        b"RECORDER01\0\0",
+        // Gap Fill and New: positions 0 and 1.
+        &[0xC0],
+        &[0; 31],
+        &[b'Y', 5, 0, 0, 0],
+    ]
+    .concat();
+    let sum = crc::crc32c(&gap_fill).to_le_bytes();
+    let gap_fill = [&gap_fill[..], &sum].concat();
+    let business: Vec<u8> = [
+        // Length 61, type 9, number 5, PossDup 1, PossResend 0.
+        &[2, 61, 0, 9, 5, 0, 0, 0, 1, 0][..],
+        b"RECORDER01\0\0",
+        // Business Reject Code and Reference Message Type: positions 0 and 2.
+        &[0xA0],
+        &[0; 31],
+        &[0; 3],
+    ]
+    .concat();
+    let sum = crc::crc32c(&business).to_le_bytes();
+    let business = [&business[..], &sum].concat();
+    let sent = gateway::send(&small_list().concat(), 3, 0).unwrap();
+    assert_eq!(sent, [gap_fill, business].concat());
+}
+
+/// What is sent for a Start and an End over the small list.
+fn sent_of_small(start: u32, end: u32) -> Vec<u8> {
+    gateway::send(&small_list().concat(), start, end).unwrap()
+}
+
+#[test]
+fn sending_from_start_to_end() {
+    let fill = |n: u32, new: u32| again(gap_fill(n, new));
+    let at = |n: u32| again(business(n));
+    let all = [fill(1, 2), at(2), fill(3, 5), at(5)].concat();
+    // End 0, at the list's last number and past it.
+    for end in [0, 5, 6, LAST] {
+        assert_eq!(sent_of_small(1, end), all);
+        assert_eq!(sent_of_small(4, end), [fill(4, 5), at(5)].concat());
+        assert_eq!(sent_of_small(5, end), at(5));
+    }
+    // Within the list, inside a run too.
+    assert_eq!(sent_of_small(1, 1), fill(1, 2));
+    assert_eq!(sent_of_small(1, 2), [fill(1, 2), at(2)].concat());
+    assert_eq!(sent_of_small(2, 3), [at(2), fill(3, 4)].concat());
+    assert_eq!(sent_of_small(3, 4), fill(3, 5));
+    assert_eq!(sent_of_small(4, 4), fill(4, 5));
+}
+
+/// A listed Sequence Reset is a session number like any other, and all types but 9
+/// and 10 are.
+#[test]
+fn sending_session_numbers() {
+    let mut rng = Rng::new(30);
+    let list: Vec<u8> = (0..9)
+        .flat_map(|message_type| {
+            let number = u32::from(message_type) + 1;
+            make::message(&mut rng, message_type, number, US)
+        })
+        .collect();
+    assert_eq!(gateway::send(&list, 1, 0), Ok(again(gap_fill(1, 10))));
+    assert_eq!(gateway::send(&list, 4, 7), Ok(again(gap_fill(4, 8))));
+}
+
+/// PossDup becomes 1 whatever it was, PossResend stays; a gap fill has none.
+#[test]
+fn sending_flags() {
+    for poss_resend in [0, 1] {
+        let flagged = |bytes| {
+            if poss_resend == 1 {
+                resent(bytes)
+            } else {
+                bytes
+            }
+        };
+        for listed in [business(1), again(business(1))] {
+            let list = [flagged(listed), flagged(again(heartbeat(2)))].concat();
+            let sent = [flagged(again(business(1))), again(gap_fill(2, 3))].concat();
+            assert_eq!(gateway::send(&list, 1, 0), Ok(sent));
+        }
+    }
+}
+
+/// Zeros after a fixed text's null, and nothing after a variable text's.
+#[test]
+fn sending_plain_form() {
+    // Number 8 has a variable text with bytes after its null. A fixed text and the
+    // Comp ID get some too.
+    let mut listed = business_reject();
+    let name = 54 + 2 + 8 + 1;
+    assert_eq!(listed[name..name + 5], *b"Side\0");
+    listed[name + 5..name + 50].fill(7);
+    listed[21] = b'!';
+    listed[4] = 1;
+    make::reseal(&mut listed);
+    let plain = [
+        &[0x34, 0x12][..],
+        &[3, 0, b'n', b'o', 0],
+        &[10],
+        &padded(b"Side", 50),
+        &[0xFF, 0xFE, 0xFD, 0xFC],
+        &padded(b"", 21),
+    ]
+    .concat();
+    let plain = again(framed(9, 1, &[0, 1, 2, 3, 4, 5], &plain));
+    assert_eq!(listed.len(), plain.len() + 3);
+    assert_eq!(gateway::send(&listed, 1, 0), Ok(plain.clone()));
+    // The Comp ID is its characters: what stands behind its null makes no other.
+    let list = [listed, heartbeat(2)].concat();
+    let sent = [plain, again(gap_fill(2, 3))].concat();
+    assert_eq!(gateway::send(&list, 1, 0), Ok(sent));
+}
+
+#[test]
+fn sending_wrong_lists() {
+    let says = |list: &[Vec<u8>], start: u32, end: u32, line: &str| {
+        let wrong = gateway::send(&list.concat(), start, end).unwrap_err();
+        assert_eq!(wrong.to_string(), line);
+    };
+    let other = |bytes| under(b"RECORDER02", bytes);
+    let good = small_list();
+    // Refused, in their order: 1 at the end, and one of each other sort.
+    let line = |k: usize, r: u32| format!("bench: message {} of the list is refused {}", k, r);
+    for length in [1, 2, 3, 57, 60] {
+        let cut = business(2)[..length].to_vec();
+        says(&[business(1), cut], 1, 0, &line(2, 1));
+    }
+    says(&[business(1), vec![10]], 1, 0, &line(2, 2));
+    says(&[vec![2, 57, 0]], 1, 0, &line(1, 3));
+    says(&[bad_sum(business(1))], 1, 0, &line(1, 4));
+    says(&[framed(11, 1, &[], &[])], 1, 0, &line(1, 5));
+    says(&[heartbeat(1), framed(0, 0, &[], &[])], 1, 0, &line(2, 6));
+    says(&[framed(9, 1, &[2], &[0])], 1, 0, &line(1, 8));
+    says(&[framed(0, 1, &[], &[0])], 1, 0, &line(1, 10));
+    // Numbers and Comp IDs.
+    let line = "bench: message 2 of the list bears number 3";
+    says(&[business(1), business(3)], 1, 0, line);
+    let line = "bench: message 1 of the list bears number 4294967295";
+    says(&[business(LAST)], 1, 0, line);
+    let line = "bench: message 3 of the list bears number 2";
+    says(&[business(1), business(2), business(2)], 1, 0, line);
+    let line = "bench: message 2 of the list has another Comp ID than the first";
+    says(&[business(1), other(business(2))], 1, 0, line);
+    says(&[other(business(1)), business(2)], 1, 0, line);
+    says(&[business(1), under(b"RECORDER0", business(2))], 1, 0, line);
+    says(
+        &[business(1), under(b"RECORDER012", business(2))],
+        1,
+        0,
+        line,
+    );
+    // The first message that is wrong is told, and of it the first that holds.
+    let line = "bench: message 2 of the list bears number 7";
+    says(&[business(1), other(business(7)), vec![10]], 0, 0, line);
+    let line = "bench: message 2 of the list is refused 4";
+    says(&[business(1), bad_sum(other(business(7)))], 0, 0, line);
+    // The plan comes last.
+    says(&[], 1, 0, "bench: refused 40");
+    for (start, end) in [(0, 0), (6, 0), (LAST, LAST), (2, 1), (5, 4), (0, 3)] {
+        says(&good, start, end, "bench: refused 40");
+    }
+}
+
+/// A good list of so many bytes, all of it Logouts, of which the last has a longer
+/// text.
+fn list_of(length: usize) -> Vec<u8> {
+    let mut list = Vec::new();
+    for n in 1.. {
+        let left = length - list.len();
+        if left < 2 * LEAST + 3 {
+            let body = variable(&vec![b'A'; left - LEAST - 3]);
+            list.extend(framed(6, n, &[0], &body));
+            break;
+        }
+        list.extend(framed(6, n, &[], &[]));
+    }
+    assert_eq!(list.len(), length);
+    list
+}
+
+#[test]
+fn sending_the_longest_list() {
+    let longest = list_of(gateway::LONGEST);
+    let count = (longest.len() / LEAST) as u32;
+    let sent = again(gap_fill(1, count + 1));
+    assert_eq!(gateway::send(&longest, 1, 0), Ok(sent));
+    let line = "bench: the list is too long: it has at most 1048576 bytes";
+    let wrong = gateway::send(&list_of(gateway::LONGEST + 1), 1, 0);
+    assert_eq!(wrong, Err(Wrong::TooLong));
+    assert_eq!(Wrong::TooLong.to_string(), line);
+    // It is told before everything else.
+    let zeros = vec![0; gateway::LONGEST + 1];
+    assert_eq!(gateway::send(&zeros, 0, 0), wrong);
+}
+
+#[test]
+fn sending_first_line() {
+    let asked = |start, end, list| Some(Asked { start, end, list });
+    for (input, answer) in [
+        (&b"send start=3 end=0\n"[..], asked(3, 0, &b""[..])),
+        (
+            b"send start=0 end=4294967295\n\n\x02",
+            asked(0, LAST, b"\n\x02"),
+        ),
+        (b"send start=1 end=4294967296\n", None),
+        (b"send start=-1 end=0\n", None),
+        (b"send start= end=0\n", None),
+        (b"send start=1  end=0\n", None),
+        (b"send start=1 end=0 \n", None),
+        (b"send start=1 end=0\r\n", None),
+        (b"send end=0 start=1\n", None),
+        (b"send start=1\n", None),
+        (b"start=1 end=0\n", None),
+        (b"Send start=1 end=0\n", None),
+        (b"", None),
+    ] {
+        assert_eq!(gateway::asked(input), answer);
+    }
+}
+
+/// Sends a list to a Live session that asked from E, by single steps and in one
+/// call. The list's business messages from E on are handed up in order, nothing
+/// is sent, E ends one past the list, and M is 0 if it stood within it.
+fn both_ends_meet(list: &[Vec<u8>], session: &Session) {
+    let answer = gateway::send(&list.concat(), session.e, 0).unwrap();
+    let last = list.len() as u32;
+    let after = Session {
+        e: last + 1,
+        m: if session.m > last { session.m } else { 0 },
+        repeats: 0,
+        ..session.clone()
+    };
+    let listed: Vec<Vec<u8>> = list[session.e as usize - 1..]
+        .iter()
+        .filter(|message| message[3] == 9 || message[3] == 10)
+        .map(|message| again(ToWrite::of(message).unwrap().bytes().unwrap()))
+        .collect();
+
+    let mut in_turn = session.clone();
+    let mut handed_up = Vec::new();
+    let mut rest = &answer[..];
+    let mut steps = 0;
+    while !rest.is_empty() {
+        let told = in_turn.step(rest);
+        assert_eq!((told.code, told.sends), (0, [Send::None; 2]));
+        let (message, behind) = rest.split_at(session::used(0, rest));
+        if told.row.sort == RowSort::Business {
+            handed_up.push(message.to_vec());
+        }
+        rest = behind;
+        steps += 1;
+    }
+    assert_eq!(in_turn, after);
+    assert_eq!(handed_up, listed);
+
+    let mut at_once = session.clone();
+    let many = many(&mut at_once, &answer, A_ROW * steps, 2 * A_SEND);
+    assert_eq!(at_once, after);
+    assert_eq!(end(&many.done), (answer.len(), Ended::Short, 0, 3));
+    assert_eq!((many.done.rows, many.done.sends), (steps, 0));
+}
+
+#[test]
+fn both_ends_meet_over_every_list() {
+    let mut rng = Rng::new(31);
+    for count in 1..=5 {
+        for marks in make::every_list(count) {
+            let list = make::published(&mut rng, US, &marks);
+            for e in 1..=count {
+                both_ends_meet(&list, &live(e, 2));
+                for m in (e.max(2)..=count + 2).chain([LAST]) {
+                    let repeats = rng.below(3) as u32;
+                    for o in [ASKED_ONCE + repeats, LAST] {
+                        both_ends_meet(&list, &with_hole(e, o, m, repeats));
+                    }
+                }
+            }
+        }
+    }
 }
 
 // ---- Random input; plain against reader, writer and session ----

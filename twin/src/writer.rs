@@ -2,6 +2,7 @@
 //! messages that a session sends.
 
 use crate::crc::crc32c;
+use crate::reader;
 use crate::tables::{self, types, Sort};
 use crate::wire::*;
 
@@ -25,6 +26,32 @@ pub struct ToWrite {
 }
 
 impl ToWrite {
+    /// The message at the front of the bytes, as it was read.
+    pub fn of(bytes: &[u8]) -> Result<ToWrite, Refusal> {
+        let head = reader::read(bytes)?;
+        let mut map = [0; MAP_WIDTH];
+        map.copy_from_slice(reader::map(bytes));
+        Ok(ToWrite {
+            head: HeadValues {
+                message_type: head.message_type,
+                number: head.number,
+                poss_dup: head.poss_dup,
+                poss_resend: head.poss_resend,
+            },
+            comp_id: reader::comp_id(bytes).to_vec(),
+            map,
+            body: reader::body(bytes).to_vec(),
+        })
+    }
+
+    /// The message as bytes of their own.
+    pub fn bytes(&self) -> Result<Vec<u8>, Refusal> {
+        let mut out = vec![0; MOST];
+        let length = self.write(&mut out)?;
+        out.truncate(length);
+        Ok(out)
+    }
+
     pub fn write(&self, out: &mut [u8]) -> Result<usize, Refusal> {
         write(&self.head, &self.comp_id, &self.map, &self.body, out)
     }

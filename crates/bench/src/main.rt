@@ -10,10 +10,19 @@
 // A third word, as in start=1 end=0 split=3, splits the plan behind number 3 (document 02, item 12). It then prints the plan for Start to
 // that number, the plan for the number after it to End, and the two joined, each under a line that names it: plan start=1 end=3, plan start=4
 // end=0, joined start=1 end=0. Where one of the two is refused, nothing is joined.
+//
+// With a word before them, as in send start=3 end=0, the bench plays the gateway (document 02, item 14). What follows that line, to the end of
+// the input, is then the gateway's published list: the bytes of its messages back to back, with the numbers 1, 2, .. and one Comp ID, at most
+// 1,048,576 bytes. The messages of the plan are written to standard output as bytes, and nothing else is: a business message as it is listed,
+// in plain form and with PossDup 1; a gap fill with the list's Comp ID. What is wrong with the list or the request is told on standard error,
+// and then nothing is sent.
+mod gateway;
+
 ghost use mathlib.Core.Path.{_≡_};
 ghost use Prim.Native.Nat.{ℕ, _*_, _≤_};
 ghost use lib.ListN.{length};
 ghost use Rattle.plan.specs.declared.Planned.the-variants.{Wrote};
+use crate::gateway::send;
 use libc::STDERR_FILENO;
 use libc::STDIN_FILENO;
 use libc::STDOUT_FILENO;
@@ -30,22 +39,25 @@ fn say_number(n: u64) {
     io::print_decimal(STDOUT_FILENO, n);
 }
 
+fn complain(text: &[u8]) {
+    io::write_all(STDERR_FILENO, b"bench: ");
+    io::write_all(STDERR_FILENO, text);
+}
+
 fn usage() {
-    io::write_all(
-        STDERR_FILENO,
-        b"bench: standard input must be two lines: start=S end=E, with S and E from 0 to 4294967295, or start=S end=E split=M, with M from 1 to 4294967294, and then at most 65536 digits, 1 for a business number and 0 for a session number\n",
+    complain(
+        b"standard input must be two lines: start=S end=E, with S and E from 0 to 4294967295, or start=S end=E split=M, with M from 1 to 4294967294, and then at most 65536 digits, 1 for a business number and 0 for a session number; or the line send start=S end=E and then at most 1048576 bytes, the messages of the list\n",
     );
 }
 
 fn too_long() {
-    io::write_all(
-        STDERR_FILENO,
-        b"bench: standard input is too long: a list has at most 65536 digits, and nothing follows its line\n",
+    complain(
+        b"standard input is too long: a list has at most 65536 digits, and nothing follows its line\n",
     );
 }
 
 fn unread() {
-    io::write_all(STDERR_FILENO, b"bench: standard input cannot be read\n");
+    complain(b"standard input cannot be read\n");
 }
 
 // A byte of standard input.
@@ -157,9 +169,10 @@ enum Split {
     Behind(u32),
 }
 
-// The first line: Start, End, and where the plan is split.
+// The first line: Start, End, and where the plan is split; or Start and End of a plan that is sent.
 enum Request {
     Plan(u32, u32, Split),
+    Send(u32, u32),
     Bad,
 }
 
@@ -182,7 +195,7 @@ fn split_asked(s: u32, e: u32, word: &[u8]) -> Request {
     Request::Plan(s, e, Split::Behind(m.value as u32))
 }
 
-fn asked(line: &[u8]) -> Request {
+fn plan_asked(line: &[u8]) -> Request {
     if !begins(line, b"start=") {
         return Request::Bad;
     }
@@ -208,6 +221,22 @@ fn asked(line: &[u8]) -> Request {
         return Request::Plan(s.value as u32, e.value as u32, Split::Nowhere);
     }
     split_asked(s.value as u32, e.value as u32, more)
+}
+
+// A plan that is sent is not split.
+fn asked(line: &[u8]) -> Request {
+    let word = b"send ";
+    if !begins(line, word) {
+        return plan_asked(line);
+    }
+    match plan_asked(from(line, word.len())) {
+        Request::Plan(s, e, split) => match split {
+            Split::Nowhere => Request::Send(s, e),
+            Split::Behind(_) => Request::Bad,
+        },
+        Request::Send(_, _) => Request::Bad,
+        Request::Bad => Request::Bad,
+    }
 }
 
 // The first n bytes, digits 0 and 1, become the numbers 0 and 1; false where there is another byte.
@@ -274,10 +303,17 @@ fn say_planned(planned: Planned, pairs: &[u32])
     }
 }
 
+// The plan, whose pairs lie within the buffer.
+fn planned(list: &[u8], s: u32, e: u32, pairs: &mut [u32]) -> Planned
+    ensures { λ r. ⌜ ((n : ℕ) → r ≡ Wrote n → 2 * n ≤ length (now (pairs .exit))) ⌝ }
+{
+    plan(list, s, e, pairs)
+}
+
 fn say_plan(list: &[u8], s: u32, e: u32, pairs: &mut [u32]) -> Planned
     ensures { λ r. ⌜ ((n : ℕ) → r ≡ Wrote n → 2 * n ≤ length (now (pairs .exit))) ⌝ }
 {
-    let planned = plan(list, s, e, pairs);
+    let planned = planned(list, s, e, pairs);
     say_planned(planned, pairs);
     planned
 }
@@ -373,6 +409,7 @@ fn main() {
     match read_line(&mut line) {
         Line::Whole(n) => match asked(front(&line, n)) {
             Request::Plan(s, e, split) => run(s, e, split),
+            Request::Send(s, e) => send(s, e),
             Request::Bad => usage(),
         },
         Line::Last(_) => usage(),

@@ -2,7 +2,7 @@
 --
 -- Supposed: the session is Live and expects a; a is below b, and b below c. Shown (`fills-join`): bytes that are a gap fill from a to b, and then bytes
 -- that are one from b to c, leave the same session as bytes that are one from a to c: the same in every member, whatever M and the repeats are.
-use Prim.Native.Nat.{ℕ, _-_, _<_}
+use Prim.Native.Nat.{ℕ, _-_, _<_, _≤_}
 use mathlib.Core.Path.{_≡_, refl, sym, ap, ap₂, _∙_}
 use mathlib.Core.Bool.{Bool, true, false, cond}
 use mathlib.Core.List.{List}
@@ -24,26 +24,34 @@ use Rattle.demands.specs.Fill.{Fill}
 use Rattle.demands.proofs.Second.{gap-fill-step}
 
 -- M that b has passed, c has passed too
-ahead-twice : (m b c : ℕ) → b < c → aheadAt (aheadAt m b) c ≡ aheadAt m c
+ahead-twice : (m b c : ℕ) → b ≤ c → aheadAt (aheadAt m b) c ≡ aheadAt m c
 unfolding aheadAt
 ahead-twice m b c l = go (ltb m b) refl
   where
     go : (t : Bool) → ltb m b ≡ t → cond (ltb (cond t 0 m) c) 0 (cond t 0 m) ≡ cond (ltb m c) 0 m
-    go true e = rw (lt-ltb m c (omega (arith, ltb-true m b e)), lt-ltb 0 c (omega arith)) refl
+    go true e = let k = ltb-true m b e in rw (lt-ltb m c (omega arith), lt-ltb 0 c (omega arith)) refl
     go false e = refl
 
 -- no repeat is left where E has moved
-moved-none : (s : Session) (e m r : ℕ) → (e ≡ s .expected → ⊥) → repeatsAt s e m r ≡ 0
+pub moved-none : (s : Session) (e m r : ℕ) → (e ≡ s .expected → ⊥) → repeatsAt s e m r ≡ 0
 unfolding repeatsAt
 moved-none s e m r h = either (λ (x : ℕ). x ≡ 0) (eqb m 0) (λ t. refl) (λ t. rw (ne-eqb e (s .expected) h) refl)
 
-take-twice : (s : Session) (b c : ℕ) (v w x : Row) → s .expected < b → b < c
+-- and from none there comes none
+still-none : (s : Session) (e m : ℕ) → repeatsAt s e m 0 ≡ 0
+unfolding repeatsAt
+still-none s e m = either (λ (x : ℕ). x ≡ 0) (eqb m 0) (λ t. refl) (λ t. either (λ (x : ℕ). x ≡ 0) (eqb e (s .expected)) (λ u. refl) (λ u. refl))
+
+-- a session that goes on to b and then to c, and one that goes on to c at once
+pub take-twice : (s : Session) (b c : ℕ) (v w x : Row) → s .expected < b → b ≤ c
     → take (take s b (s .own) send.Nothing v .session) c (s .own) send.Nothing w .session ≡ take s c (s .own) send.Nothing x .session
 unfolding take
 take-twice s b c v w x h l =
     let t : Session = take s b (s .own) send.Nothing v .session in
+    let none : t .repeats ≡ 0 = moved-none s b (aheadAt (s .ahead) b) (s .repeats) (λ z. omega arith) in
     ap₂ (λ (a r : ℕ). with a r) (ahead-twice (s .ahead) b c l)
-    (moved-none t c (aheadAt (t .ahead) c) (t .repeats) (λ z. omega arith) ∙ sym (moved-none s c (aheadAt (s .ahead) c) (s .repeats) (λ z. omega arith)))
+    (ap (repeatsAt t c (aheadAt (t .ahead) c)) none ∙ still-none t c (aheadAt (t .ahead) c)
+    ∙ sym (moved-none s c (aheadAt (s .ahead) c) (s .repeats) (λ z. omega arith)))
   where
     with : ℕ → ℕ → Session
     with a r = record { state = Live; ours = s .ours; expected = c; own = s .own; ahead = a; repeats = r }
@@ -67,5 +75,5 @@ fills-join s a b c one two both p e h l f g k =
     let second : step t two .session ≡ take t c (t .own) send.Nothing (row.Filled b (c - 1)) .session =
     ap (λ (r : Stepped). r .session) (fill-taken t b c two refl g refl l) in
     ap (λ (x : Session). step x two .session) first ∙ second
-    ∙ take-twice s b c (row.Filled a (b - 1)) (row.Filled b (c - 1)) (row.Filled a (c - 1)) (omega arith) l
+    ∙ take-twice s b c (row.Filled a (b - 1)) (row.Filled b (c - 1)) (row.Filled a (c - 1)) (omega arith) (omega arith)
     ∙ sym (ap (λ (r : Stepped). r .session) (fill-taken s a c both p k e (omega arith)))

@@ -14,3 +14,5 @@ pub mod Hole
 pub mod Bears
 pub mod WorkedReport
 pub mod Fills
+pub mod Meets
+pub mod PartsExist

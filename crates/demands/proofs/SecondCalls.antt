@@ -25,7 +25,7 @@ use Rattle.session.specs.declared.state.Session.{Session}
 use Rattle.session.specs.declared.state.State.the-variants.{Live}
 use Rattle.calls.specs.declared.Ended.{Ended}
 use Rattle.calls.specs.declared.Ended.the-variants.{Short}
-use Rattle.session.specs.Arrival.{arrivalBy, arrivalOf}
+use Rattle.session.specs.Arrival.{arrivalBy}
 use Rattle.session.specs.Day.{stepBy, refused, arrived, stepIn, step}
 use Rattle.session.specs.State.{codeNumber, codeBesides, last, sortNumber, told, unmoved, take}
 use Rattle.calls.specs.Steps.{
@@ -152,7 +152,7 @@ unfolding slice handedRows saidAll businessOf
 turns-take {s = s} {f = f} (end p d) none bytes q k at r x =
     subst (TakesAll s bytes [] f) (sym (turns-end k at r q s p))
     (record { used = refl; state = p; expected = d; own = refl; handed = refl; quiet = refl; ended = refl })
-turns-take {s = s} (next {b = b} {bs = bs} {h = h} {n = n} {f = f} e w g t u i) (more z zs) bytes q k at r x =
+turns-take {s = s} (next {b = b} {bs = bs} {h = h} {n = n} {f = f} e w o g t u i) (more z zs) bytes q k at r x =
     let l : 1 ≤ length b = omega (arith, good-least b h n g, front-good b h n g) in
     takes-next bytes k at r q e f s b bs w (more-step b (slice bs) h n g z s ∙ t) (more-front b (slice bs) h n g z) l u x (turns-take i zs bytes q)
 

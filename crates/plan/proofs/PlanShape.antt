@@ -61,7 +61,7 @@ follows n (b ∷ bs) = let e : n + suc (length bs) ≡ n + 1 + length bs = omega
 
 -- ---- what follows rises, and its gap fills are apart
 
-follows-up : {n m : ℕ} {ps : List Part} → Follows n m ps → n ≤ m
+pub follows-up : {n m : ℕ} {ps : List Part} → Follows n m ps → n ≤ m
 follows-up none = omega arith
 follows-up (one f) = omega (arith, follows-up f)
 follows-up (fill h) = omega arith
@@ -310,14 +310,17 @@ none-once : (t : Bool) → once t ≡ 0 → t ≡ false
 none-once true z = absurd (omega arith)
 none-once false z = refl
 
+-- the parts from s to e follow, whatever the list's length and bytes
+pub parts-follow : (list : List ℕ) (s e : ℕ) → 1 ≤ s → s ≤ lastNumber list e → Follows s (lastNumber list e + 1) (partsOf list s e)
+unfolding partsOf
+parts-follow list s e h l =
+    let n : s + length (drop (s - 1) (take (lastNumber list e) list)) ≡ lastNumber list e + 1 =
+    omega (arith, length-slice (s - 1) (lastNumber list e) list (last-within list e)) in
+    subst (λ (m : ℕ). Follows s m (partsOf list s e)) n (follows s (drop (s - 1) (take (lastNumber list e) list)))
+
 module _ (list : List ℕ) (s e : ℕ) (q : isRequest list s e ≡ true) where
   pub plan-follows : Follows s (lastNumber list e + 1) (partsOf list s e)
-  unfolding partsOf
-  plan-follows =
-      let r : Request list s e = requested list s e q in
-      let n : s + length (drop (s - 1) (take (lastNumber list e) list)) ≡ lastNumber list e + 1 =
-      omega (arith, length-slice (s - 1) (lastNumber list e) list (last-within list e), r .from-one, r .up-to-last) in
-      subst (λ (m : ℕ). Follows s m (partsOf list s e)) n (follows s (drop (s - 1) (take (lastNumber list e) list)))
+  plan-follows = let r : Request list s e = requested list s e q in parts-follow list s e (r .from-one) (r .up-to-last)
 
   -- of two parts, the later begins at a higher number
   pub plan-rising : (i j : ℕ) → i < j → j < length (partsOf list s e) → getD (partsOf list s e) i (business 0) .first < getD (partsOf list s e) j (business 0) .first

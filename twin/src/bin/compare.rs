@@ -11,15 +11,19 @@ use proved::{
     Written,
 };
 use std::fmt::{Debug, Formatter};
+use std::fs;
 use std::io::Write;
-use std::process::{exit, Command, Stdio};
+use std::ops::RangeInclusive;
+use std::process::{exit, Command, Output, Stdio};
 use std::time::{Duration, Instant};
-use twin::make::{self, Cut, Event, Rng, Sent, Text};
+use twin::gateway::{self, is_business, Wrong};
+use twin::make::{self, Cut, Event, Given, Rng, Sent, Text};
 use twin::plan::{A_PAIR, LONGEST_PLAN};
 use twin::reader::{self, Head, A_FIELD};
-use twin::reports::LIST;
+use twin::reports::{LIST, US};
 use twin::session::{self, Ended, Phase, RowSort, A_ROW, A_SEND, LAST, NOT_A_SEND};
-use twin::session::{ASKED_ONCE, LAST_KIND, MOST_REPEATS, ROWS_A_STEP, ROW_PLACE, SENDS_A_STEP};
+use twin::session::{ASKED_ONCE, LAST_KIND, MOST_REPEATS};
+use twin::session::{ROWS_A_STEP, ROW_PLACE, ROW_SORT, SENDS_A_STEP};
 use twin::tables::{self, types};
 use twin::wire::{self, Allowed, Refusal, BODY_AT, MAP_WIDTH, TRAILER};
 use twin::writer::{self, HeadValues, ToWrite};
@@ -33,9 +37,9 @@ const ENOUGH: u32 = 10;
 // ---- Counting ----
 
 /// The categories, with their parts of a hundred of the random comparisons.
-const CATEGORIES: [(&str, u64); 15] = [
+const CATEGORIES: [(&str, u64); 17] = [
     ("short inputs", 6),
-    ("valid messages", 22),
+    ("valid messages", 20),
     ("writes, good and bad", 6),
     ("damage", 9),
     ("histories", 17),
@@ -46,9 +50,11 @@ const CATEGORIES: [(&str, u64); 15] = [
     ("many messages in one call", 12),
     ("holes in the answer", 11),
     ("plans that join", 2),
+    ("both ends meet", 2),
     ("texts, every character", 0),
     ("version", 0),
     ("daysheet", 0),
+    ("both ends meet, bench", 0),
 ];
 
 struct Tally {
@@ -65,6 +71,10 @@ struct Tally {
     joins: [u64; JOINS.len()],
     cuts: [u64; CUTS.len()],
     fills: [u64; FILLS.len()],
+    /// How often sessions that take an answer met each of theirs.
+    answers: [u64; ANSWERS.len()],
+    /// How often runs of the bench met each of theirs; None where it is not run.
+    sendings: Option<[u64; SENDINGS.len()]>,
     differences: u32,
     began: Instant,
     told: Instant,
@@ -81,6 +91,8 @@ impl Tally {
             joins: [0; JOINS.len()],
             cuts: [0; CUTS.len()],
             fills: [0; FILLS.len()],
+            answers: [0; ANSWERS.len()],
+            sendings: None,
             differences: 0,
             began: Instant::now(),
             told: Instant::now(),
@@ -152,7 +164,19 @@ impl Tally {
         println!("plans that join: {}", met_of(&JOINS, &self.joins));
         println!("plans cut in two: {}", met_of(&CUTS, &self.cuts));
         println!("two gap fills: {}", met_of(&FILLS, &self.fills));
-        let counts: [&[u64]; 5] = [singles, many, &self.joins, &self.cuts, &self.fills];
+        println!("both ends meet: {}", met_of(&ANSWERS, &self.answers));
+        let mut counts: Vec<&[u64]> = vec![
+            singles,
+            many,
+            &self.joins,
+            &self.cuts,
+            &self.fills,
+            &self.answers,
+        ];
+        if let Some(sendings) = &self.sendings {
+            println!("both ends meet, bench: {}", met_of(&SENDINGS, sendings));
+            counts.push(sendings);
+        }
         // A run that differences have ended did not come so far.
         let is_whole = self.differences < ENOUGH;
         let missed = is_whole && counts.iter().any(|counts| missed(counts));
@@ -774,29 +798,9 @@ fn message_number(rng: &mut Rng) -> u32 {
     rng.any_u32().max(1)
 }
 
-fn to_write(bytes: &[u8]) -> Option<ToWrite> {
-    let head = reader::read(bytes).ok()?;
-    let mut map = [0; MAP_WIDTH];
-    map.copy_from_slice(reader::map(bytes));
-    Some(ToWrite {
-        head: HeadValues {
-            message_type: head.message_type,
-            number: head.number,
-            poss_dup: head.poss_dup,
-            poss_resend: head.poss_resend,
-        },
-        comp_id: reader::comp_id(bytes).to_vec(),
-        map,
-        body: reader::body(bytes).to_vec(),
-    })
-}
-
 /// What the twin writes; nothing where it refuses.
 fn written_bytes(given: &ToWrite) -> Vec<u8> {
-    let mut out = vec![0; wire::MOST];
-    let length = given.write(&mut out).unwrap_or(0);
-    out.truncate(length);
-    out
+    given.bytes().unwrap_or_default()
 }
 
 /// The length of what the twin writes; 0 where it refuses.
@@ -811,7 +815,7 @@ fn valid_messages(tally: &mut Tally, rng: &mut Rng, until: u64) {
         let number = message_number(rng);
         let mut bytes = make::message(rng, message_type, number, &comp_id);
         message_type = (message_type + 1) % types::COUNT as u8;
-        let given = to_write(&bytes).expect("the maker makes good messages");
+        let given = ToWrite::of(&bytes).expect("the maker makes good messages");
         if rng.chance(20) {
             let more = rng.index(70);
             bytes.extend(rng.bytes(more));
@@ -2679,9 +2683,7 @@ const CUT_LISTS: u32 = 5;
 /// of 0 and past it.
 fn every_cut(tally: &mut Tally, rng: &mut Rng) {
     for count in 0..=CUT_LISTS {
-        let lists =
-            (0..1_u32 << count).map(|bits| (0..count).map(move |at| (bits >> at & 1) as u8));
-        for list in lists.map(|list| list.collect::<Vec<u8>>()) {
+        for list in make::every_list(count) {
             for start in 1..=count {
                 for middle in start..count {
                     let ends = (middle + 1..=count).chain([0, count + 1, LAST]);
@@ -2789,6 +2791,385 @@ fn joins(tally: &mut Tally, rng: &mut Rng, until: u64) {
         }
         let fills = some_fills(rng);
         hold_two_fills(tally, rng, &fills);
+    }
+}
+
+// ---- Both ends meet ----
+
+/// A listed message, as far as it matters to what is met.
+struct Published {
+    head: Head,
+    is_plain: bool,
+    /// How long it is in plain form.
+    plain_length: usize,
+}
+
+/// A Live session that takes a gateway's answer, from E to the end of a list.
+struct Answered {
+    session: session::Session,
+    list: Vec<Published>,
+}
+
+impl Answered {
+    fn new(session: &session::Session, list: &[&[u8]]) -> Answered {
+        let published = |message: &&[u8]| {
+            let plain = written_bytes(&ToWrite::of(message).expect("a good list"));
+            Published {
+                head: reader::read(message).expect("a good list"),
+                is_plain: plain == *message,
+                plain_length: plain.len(),
+            }
+        };
+        Answered {
+            session: session.clone(),
+            list: list.iter().map(published).collect(),
+        }
+    }
+
+    /// The list's last number.
+    fn last(&self) -> u32 {
+        self.list.len() as u32
+    }
+
+    fn is_business(&self, n: u32) -> bool {
+        is_business(self.list[n as usize - 1].head.message_type)
+    }
+
+    /// Whether a number is the first of a run of session numbers in the answer.
+    fn begins_run(&self, n: u32) -> bool {
+        !self.is_business(n) && (n == self.session.e || self.is_business(n - 1))
+    }
+
+    /// The numbers of the answer.
+    fn numbers(&self) -> RangeInclusive<u32> {
+        self.session.e..=self.last()
+    }
+
+    /// Whether one of the messages that are handed up is like this.
+    fn hands_up(&self, is_like: fn(&Published) -> bool) -> bool {
+        self.numbers()
+            .any(|n| self.is_business(n) && is_like(&self.list[n as usize - 1]))
+    }
+}
+
+/// What sessions that take an answer must meet.
+const ANSWERS: [Situation<Answered>; 21] = [
+    ("M of 0", |seen| seen.session.m == 0),
+    ("M within the list", |seen| {
+        seen.session.m != 0 && seen.session.m < seen.last()
+    }),
+    ("M at its last number", |seen| seen.session.m == seen.last()),
+    ("M one past it", |seen| seen.session.m == seen.last() + 1),
+    ("M far past it", |seen| seen.session.m > seen.last() + 1),
+    ("M at E", |seen| seen.session.m == seen.session.e),
+    ("a count standing", |seen| seen.session.repeats > 0),
+    ("no number of ours left", |seen| seen.session.o == LAST),
+    ("E of 1", |seen| seen.session.e == 1),
+    ("E at the last number", |seen| seen.session.e == seen.last()),
+    ("the last number business", |seen| {
+        seen.is_business(seen.last())
+    }),
+    ("the last number session", |seen| {
+        !seen.is_business(seen.last())
+    }),
+    ("no business from E on", |seen| !seen.hands_up(|_| true)),
+    ("nothing but business from E on", |seen| {
+        seen.numbers().all(|n| seen.is_business(n))
+    }),
+    ("E inside a run", |seen| {
+        let e = seen.session.e;
+        e > 1 && !seen.is_business(e - 1) && !seen.is_business(e)
+    }),
+    ("two or more gap fills", |seen| {
+        seen.numbers().filter(|&n| seen.begins_run(n)).count() >= 2
+    }),
+    ("listed with PossDup 0", |seen| {
+        seen.hands_up(|message| message.head.poss_dup == 0)
+    }),
+    ("listed with PossDup 1", |seen| {
+        seen.hands_up(|message| message.head.poss_dup == 1)
+    }),
+    ("listed with PossResend 1", |seen| {
+        seen.hands_up(|message| message.head.poss_resend == 1)
+    }),
+    ("not in plain form", |seen| {
+        seen.hands_up(|message| !message.is_plain)
+    }),
+    ("shorter in plain form", |seen| {
+        seen.hands_up(|message| message.plain_length < message.head.length)
+    }),
+];
+
+/// The messages that the library reads one behind the other, up to one that it
+/// refuses.
+fn split(mut list: &[u8]) -> Vec<&[u8]> {
+    let mut all = Vec::new();
+    loop {
+        let length = proved::read(list).length;
+        if length == 0 {
+            return all;
+        }
+        let (message, behind) = list.split_at(length);
+        all.push(message);
+        list = behind;
+    }
+}
+
+/// A pair of a plan as the library's reader and writer make it a message, from the
+/// listed message of its first number.
+fn library_part(message: &[u8], [first, new]: [u32; A_PAIR]) -> Vec<u8> {
+    let part = |call: fn(&[u8]) -> Part| named(message, call(message)).1 .0;
+    let reading = proved::read(message);
+    let mut header = Header {
+        message_type: reading.message_type,
+        possdup: 1,
+        possresend: reading.possresend,
+        number: first,
+    };
+    let (map, body) = if new == 0 {
+        (part(proved::map), part(proved::body))
+    } else {
+        (header.message_type, header.possresend) = (types::SEQUENCE_RESET, 0);
+        let mut map = [0; MAP_WIDTH];
+        wire::set(&mut map, 0);
+        wire::set(&mut map, 1);
+        (map.to_vec(), [&b"Y"[..], &new.to_le_bytes()].concat())
+    };
+    let map = map.try_into().expect("a map has 32 bytes");
+    let mut out = vec![0; proved::LONGEST_WRITTEN];
+    let written = proved::write(&mut out, header, &part(proved::comp_id), &map, &body);
+    out.truncate(written.length);
+    out
+}
+
+/// What a gateway sends that is played by the library's calls.
+fn library_gateway(list: &[&[u8]], start: u32, end: u32) -> Vec<u8> {
+    let marks: Vec<u8> = list
+        .iter()
+        .map(|message| u8::from(is_business(proved::read(message).message_type)))
+        .collect();
+    let plan = library_plan(&marks, start, end);
+    let parts = pairs_of(&plan).map(|pair| library_part(list[pair[0] as usize - 1], pair));
+    parts.flatten().collect()
+}
+
+/// What the library says of a message, wherever its parts stand and however long
+/// it is.
+#[derive(Debug, PartialEq)]
+struct Content {
+    reading: Reading,
+    comp_id: Hex,
+    map: Hex,
+    /// The position, the sort and the value of each field, and its characters or
+    /// bytes.
+    fields: Vec<([u64; 3], Hex)>,
+}
+
+fn content(message: &[u8]) -> Content {
+    let mut numbers = [0; LIST];
+    let listed = proved::fields(message, &mut numbers);
+    let field = |field: &[u64]| {
+        let place = Part {
+            offset: field[2] as usize,
+            length: field[3] as usize,
+            ..Part::default()
+        };
+        ([field[0], field[1], field[4]], named(message, place).1)
+    };
+    let fields = numbers.chunks_exact(A_FIELD).take(listed.fields);
+    Content {
+        reading: Reading {
+            length: 0,
+            ..listed.reading
+        },
+        comp_id: named(message, proved::comp_id(message)).1,
+        map: named(message, proved::map(message)).1,
+        fields: fields.map(field).collect(),
+    }
+}
+
+/// What a session did with an answer.
+#[derive(Debug, PartialEq)]
+struct Taken {
+    session: proved::Session,
+    /// The refusal or the Stop that was met; 0 for none.
+    code: u32,
+    /// How many messages are to be sent.
+    sends: usize,
+    /// How many bytes were left.
+    left: usize,
+    handed_up: Vec<Content>,
+}
+
+/// What document 02, item 14, says that the session does with the answer from its E
+/// to the end of the list.
+fn said(s: proved::Session, list: &[&[u8]]) -> Taken {
+    let last = list.len() as u32;
+    let mut handed_up: Vec<Content> = list[s.expected as usize - 1..]
+        .iter()
+        .map(|message| content(message))
+        .filter(|content| is_business(content.reading.message_type))
+        .collect();
+    for content in &mut handed_up {
+        content.reading.possdup = 1;
+    }
+    Taken {
+        session: proved::Session {
+            expected: last + 1,
+            ahead: if s.ahead > last { s.ahead } else { 0 },
+            repeats: 0,
+            ..s
+        },
+        code: 0,
+        sends: 0,
+        left: 0,
+        handed_up,
+    }
+}
+
+/// What the library's session does in one call.
+fn taken_at_once(s: proved::Session, bytes: &[u8]) -> Taken {
+    let (done, mut lists) = library_many(s, bytes, Lists::new(Rooms::enough(bytes.len())));
+    let (rows, _) = lists.lent();
+    let handed_up = rows
+        .chunks_exact(A_ROW)
+        .take(done.rows)
+        .filter(|row| row[ROW_SORT] == RowSort::Business as u32)
+        .map(|row| {
+            let (begin, length) = (row[ROW_PLACE], row[ROW_PLACE + 1]);
+            content(&bytes[begin as usize..][..length as usize])
+        });
+    Taken {
+        session: done.session,
+        code: met(&done),
+        sends: done.sends,
+        left: bytes.len() - done.used,
+        handed_up: handed_up.collect(),
+    }
+}
+
+/// What it does by single steps. It ends at the first code that is not 0.
+fn taken_in_turn(s: proved::Session, bytes: &[u8]) -> Taken {
+    let mut taken = Taken {
+        session: s,
+        code: 0,
+        sends: 0,
+        left: bytes.len(),
+        handed_up: Vec::new(),
+    };
+    while taken.left > 0 && taken.code == 0 {
+        let rest = &bytes[bytes.len() - taken.left..];
+        let answer = proved::step(taken.session, rest);
+        let sends = [answer.first, answer.second];
+        taken.session = answer.session;
+        taken.code = answer.refusal;
+        taken.sends += sends.iter().filter(|send| send.kind != 0).count();
+        taken.left -= answer.used;
+        if answer.row.kind == RowSort::Business as u32 {
+            taken.handed_up.push(content(&rest[..answer.used]));
+        }
+    }
+    taken
+}
+
+/// A Live session takes what a gateway sends from its E to the end of a good list:
+/// it does what the twin's does, and what was asked for.
+fn hold_answer(tally: &mut Tally, session: &session::Session, list: &[&[u8]], bytes: &[u8]) {
+    note(&ANSWERS, &mut tally.answers, &Answered::new(session, list));
+    let s = struct_of(session);
+    hold_many(tally, s, bytes, Rooms::enough(bytes.len()));
+    for taken in [taken_at_once(s, bytes), taken_in_turn(s, bytes)] {
+        tally.hold(0, said(s, list), taken, || {
+            let (list, bytes) = (hex(&list.concat()), hex(bytes));
+            format!("answer {} list {} sent {}", shown(&s), list, bytes)
+        });
+    }
+}
+
+/// The same where the library's calls play the gateway: it sends what the twin's
+/// does.
+fn hold_both_ends(tally: &mut Tally, session: &session::Session, list: &[u8]) {
+    let messages = split(list);
+    let twin = gateway::send(list, session.e, 0).expect("a good list");
+    let proved = library_gateway(&messages, session.e, 0);
+    tally.hold(0, Hex(twin), Hex(proved.clone()), || {
+        format!("gateway start {} list {}", session.e, hex(list))
+    });
+    hold_answer(tally, session, &messages, &proved);
+}
+
+/// A Live session at a number of a list that has so many, which has asked for what
+/// is missing or not.
+fn some_asking(rng: &mut Rng, comp_id: &[u8], e: u32, last: u32) -> session::Session {
+    let m = match rng.below(6) {
+        0 => 0,
+        1 => last,
+        2 => last + 1,
+        3 => rng.any_u32().max(last + 2),
+        _ => e + rng.below(u64::from(last - e) + 3) as u32,
+    };
+    asking(rng, comp_id, e, m)
+}
+
+/// The same with this M, or the nearest that it may have. The count of repeats and O
+/// are any that go with it.
+fn asking(rng: &mut Rng, comp_id: &[u8], e: u32, m: u32) -> session::Session {
+    let (repeats, least_own) = match m {
+        0 => (0, 2),
+        _ => {
+            let repeats = rng.below(u64::from(MOST_REPEATS) + 1) as u32;
+            (repeats, ASKED_ONCE + repeats)
+        }
+    };
+    session::Session {
+        phase: Phase::Live,
+        comp_id: comp_id.to_vec(),
+        e,
+        o: rng.any_u32().max(least_own),
+        m: if m == 0 { 0 } else { m.max(e).max(2) },
+        repeats,
+    }
+}
+
+/// Lists up to this length are answered from every number.
+const ANSWERED_LISTS: u32 = 5;
+
+/// Every short list to a session at each of its numbers, with M at 0 and everywhere
+/// up to past the list.
+fn every_answer(tally: &mut Tally, rng: &mut Rng) {
+    for last in 1..=ANSWERED_LISTS {
+        for marks in make::every_list(last) {
+            let comp_id = make::comp_id(rng);
+            let list = make::published(rng, &comp_id, &marks).concat();
+            for e in 1..=last {
+                for m in (e..=last + 2).chain([0, LAST]) {
+                    let session = asking(rng, &comp_id, e, m);
+                    hold_both_ends(tally, &session, &list);
+                }
+            }
+        }
+    }
+}
+
+/// The most messages of a random list.
+const MOST_PUBLISHED: usize = 40;
+
+fn ends_meet(tally: &mut Tally, rng: &mut Rng, until: u64) {
+    every_answer(tally, rng);
+    let until = tally.count() + until;
+    while tally.count() < until {
+        let marks = make::good_list(rng, MOST_PUBLISHED);
+        if marks.is_empty() {
+            continue;
+        }
+        let comp_id = make::comp_id(rng);
+        let list = make::published(rng, &comp_id, &marks).concat();
+        let last = marks.len() as u32;
+        // The same list to a few sessions.
+        for e in [1, last, 1 + rng.index(marks.len()) as u32] {
+            let session = some_asking(rng, &comp_id, e, last);
+            hold_both_ends(tally, &session, &list);
+        }
     }
 }
 
@@ -2909,24 +3290,26 @@ fn versions(tally: &mut Tally, _: &mut Rng, _: u64) {
 
 // ---- Daysheet ----
 
-/// Runs the program on a sheet; what it printed.
-fn printed(command: &[&str], sheet: &[u8]) -> Vec<u8> {
+/// Runs a program on an input; what it printed. What it says on standard error is
+/// a part of that where a pipe is given for it.
+fn printed(command: &[&str], input: &[u8], errors: Stdio) -> Output {
     let mut child = Command::new(command[0])
         .args(&command[1..])
         .stdin(Stdio::piped())
         .stdout(Stdio::piped())
+        .stderr(errors)
         .spawn()
-        .expect("daysheet starts");
+        .expect("the program starts");
     let mut pipe = child.stdin.take().expect("a pipe was asked for");
-    let sheet = sheet.to_vec();
-    // From another thread: it may print before it has read all. It ends at a
-    // bad line, so a pipe that is closed early is no fault.
+    let input = input.to_vec();
+    // From another thread: it may print before it has read all. It ends at
+    // something bad, so a pipe that is closed early is no fault.
     let feeder = std::thread::spawn(move || {
-        let _ = pipe.write_all(&sheet);
+        let _ = pipe.write_all(&input);
     });
-    let output = child.wait_with_output().expect("daysheet ends");
+    let output = child.wait_with_output().expect("the program ends");
     feeder.join().expect("the feeder does not panic");
-    output.stdout
+    output
 }
 
 /// Sheets of all sorts; every line is below 65,536 bytes.
@@ -2994,8 +3377,298 @@ kind=business n=2 dup=1 new=0
     for _ in 0..count {
         let text = given.pop().unwrap_or_else(|| sheet(rng));
         let twin = String::from_utf8_lossy(&daysheet::daysheet(&text)).into_owned();
-        let proved = String::from_utf8_lossy(&printed(&command, &text)).into_owned();
+        let output = printed(&command, &text, Stdio::inherit());
+        let proved = String::from_utf8_lossy(&output.stdout).into_owned();
         tally.hold(0, twin, proved, || format!("daysheet {}", hex(&text)));
+    }
+}
+
+// ---- Both ends meet, bench ----
+
+/// A run of the bench that sends.
+#[derive(Default)]
+struct Sending {
+    start: u32,
+    end: u32,
+    /// How many bytes the list has, and how many messages up to what is refused.
+    length: usize,
+    count: u32,
+    /// How many bytes the twin writes; None for a first line of another form.
+    answer: Option<Result<usize, Wrong>>,
+}
+
+impl Sending {
+    /// Whether bytes are written in a run like this.
+    fn writes(&self, is_like: fn(&Sending) -> bool) -> bool {
+        matches!(self.answer, Some(Ok(_))) && is_like(self)
+    }
+
+    /// Whether the answer goes to the end of the list, so that a session takes it.
+    fn is_taken(&self) -> bool {
+        self.writes(|run| run.end == 0 || run.end >= run.count)
+    }
+
+    /// Whether something is wrong that is like this.
+    fn is_wrong(&self, is_like: fn(Wrong) -> bool) -> bool {
+        matches!(self.answer, Some(Err(wrong)) if is_like(wrong))
+    }
+
+    /// Whether the plan is refused in a run like this.
+    fn is_40(&self, is_like: fn(&Sending) -> bool) -> bool {
+        self.is_wrong(|wrong| matches!(wrong, Wrong::Plan { .. })) && is_like(self)
+    }
+}
+
+/// What runs of the bench must meet.
+const SENDINGS: [Situation<Sending>; 18] = [
+    ("another first line", |run| run.answer.is_none()),
+    ("too long", |run| {
+        run.is_wrong(|wrong| wrong == Wrong::TooLong)
+    }),
+    ("cut at the end", |run| {
+        run.is_wrong(|wrong| matches!(wrong, Wrong::Refused { refusal: 1, .. }))
+    }),
+    ("refused but not cut", |run| {
+        run.is_wrong(|wrong| {
+            matches!(
+                wrong,
+                Wrong::Refused {
+                    refusal: 2..=10,
+                    ..
+                }
+            )
+        })
+    }),
+    ("another number", |run| {
+        run.is_wrong(|wrong| matches!(wrong, Wrong::Number { .. }))
+    }),
+    ("another Comp ID", |run| {
+        run.is_wrong(|wrong| matches!(wrong, Wrong::CompId { .. }))
+    }),
+    ("40, empty list", |run| run.is_40(|run| run.count == 0)),
+    ("40, Start of 0", |run| {
+        run.is_40(|run| run.count > 0 && run.start == 0)
+    }),
+    ("40, Start past the list", |run| {
+        run.is_40(|run| run.count > 0 && run.start > run.count)
+    }),
+    ("40, End below Start", |run| {
+        run.is_40(|run| run.end != 0 && run.end < run.start && run.start <= run.count)
+    }),
+    ("End of 0", |run| run.writes(|run| run.end == 0)),
+    ("End within the list", |run| {
+        run.writes(|run| run.end != 0 && run.end < run.count)
+    }),
+    ("End at its last number", |run| {
+        run.writes(|run| run.end == run.count)
+    }),
+    ("End past it", |run| run.writes(|run| run.end > run.count)),
+    ("taken by a session", Sending::is_taken),
+    ("not taken by one", |run| run.writes(|run| !run.is_taken())),
+    ("the longest list", |run| {
+        run.writes(|run| run.length == gateway::LONGEST)
+    }),
+    (
+        "longer than the longest list",
+        |run| matches!(run.answer, Some(Ok(length)) if length > gateway::LONGEST),
+    ),
+];
+
+/// The inputs send_*.in of a folder, by their names. Where there is none the run
+/// ends, so that it does not pass as if they had been held.
+fn stored_lists(folder: &str) -> Vec<Vec<u8>> {
+    let stored = read_stored(folder).unwrap_or_else(|error| {
+        eprintln!("compare: the lists in {}: {}", folder, error);
+        exit(2);
+    });
+    if stored.is_empty() {
+        eprintln!("compare: there is no send_*.in in {}", folder);
+        exit(2);
+    }
+    stored
+}
+
+fn read_stored(folder: &str) -> std::io::Result<Vec<Vec<u8>>> {
+    let mut names = Vec::new();
+    for entry in fs::read_dir(folder)? {
+        let file = entry?.path();
+        let name = file.file_name().unwrap_or_default().to_string_lossy();
+        if name.starts_with("send_") && name.ends_with(".in") {
+            names.push(file);
+        }
+    }
+    names.sort();
+    names.iter().map(fs::read).collect()
+}
+
+fn sending(start: u32, end: u32, list: &[u8]) -> Vec<u8> {
+    let mut input = format!("send start={} end={}\n", start, end).into_bytes();
+    input.extend_from_slice(list);
+    input
+}
+
+/// An input for the bench: a list of few messages or more, with one thing wrong or
+/// two or none, and a Start and an End that are mostly good.
+fn some_sending(rng: &mut Rng) -> Vec<u8> {
+    let comp_id = make::comp_id(rng);
+    let most = [3, MOST_PUBLISHED][rng.index(2)];
+    let marks = make::good_list(rng, most);
+    let mut list = make::published(rng, &comp_id, &marks);
+    for _ in 0..[0, 0, 0, 0, 1, 2][rng.index(6)] {
+        make::spoil_published(rng, &comp_id, &mut list);
+    }
+    let count = list.len() as u32;
+    let start = match rng.below(12) {
+        0 => rng.any_u32(),
+        1 => count + 1,
+        2 => 0,
+        _ => 1 + rng.below(u64::from(count.max(1))) as u32,
+    };
+    let end = match rng.below(12) {
+        0 => rng.any_u32(),
+        1 => rng.below(u64::from(count) + 2) as u32,
+        2..=4 => start.max(1 + rng.below(u64::from(count.max(1))) as u32),
+        _ => 0,
+    };
+    sending(start, end, &list.concat())
+}
+
+/// A list of so many bytes, with as few in each message as it may have: Heartbeats
+/// and Business Message Rejects in turn, so that gap fills make the answer longer
+/// than the list. The last one's Reason takes what is left.
+fn list_of(rng: &mut Rng, length: usize) -> Vec<u8> {
+    // The two required fields have three bytes, and a Reason's length two.
+    const LEAST_REASON: usize = wire::LEAST + 3 + tables::TEXT_LENGTH;
+    let mut list = Vec::new();
+    for number in 1.. {
+        let left = length - list.len();
+        if left == 0 {
+            break;
+        }
+        let reason = (left <= LEAST_REASON + tables::REASON.width).then(|| {
+            let mut text = vec![b'A'; left - LEAST_REASON];
+            let length = (text.len() as u16).to_le_bytes();
+            *text.last_mut().expect("there is room for its null") = 0;
+            [&length[..], &text].concat()
+        });
+        let (message_type, fixed) = if reason.is_some() || number % 2 == 0 {
+            let fixed = vec![(1, reason), (3, None), (4, None), (5, None)];
+            (types::BUSINESS_MESSAGE_REJECT, fixed)
+        } else {
+            (types::HEARTBEAT, vec![(0, None)])
+        };
+        let given = Given {
+            message_type,
+            number,
+            poss_dup: 0,
+            poss_resend: 0,
+            comp_id: US,
+        };
+        list.extend(make::message_with(rng, &given, &fixed));
+    }
+    list
+}
+
+/// Inputs that meet every situation: lists as long as they may be and longer, every
+/// sort of Start and End, and lists in which more than one thing is wrong.
+fn every_sending(rng: &mut Rng) -> Vec<Vec<u8>> {
+    const OTHER: &[u8] = b"RECORDER012";
+    let zeros = "0".repeat(gateway::LONGEST_LINE - b"send start= end=0".len() - 1);
+    let mut all = vec![
+        sending(1, 0, &list_of(rng, gateway::LONGEST)),
+        sending(1, 0, &list_of(rng, gateway::LONGEST + 1)),
+        sending(0, 0, &vec![0; gateway::LONGEST + 1]),
+        // First lines that are as long as they may be, and one byte longer.
+        format!("send start={}1 end=0\n", zeros).into_bytes(),
+        format!("send start=0{}1 end=0\n", zeros).into_bytes(),
+    ];
+    let good = make::published(rng, US, &[0, 1, 1, 0, 0]).concat();
+    for start in [0, 1, 3, 5, 6, LAST] {
+        all.push(sending(start, start, &[]));
+        for end in [0, 1, 2, 4, 5, 6, LAST] {
+            all.push(sending(start, end, &good));
+        }
+    }
+    let mut message = |comp_id, number| make::message(rng, types::HEARTBEAT, number, comp_id);
+    let first = message(US, 1);
+    let second = message(US, 2);
+    for wrong in [
+        second[..second.len() - 1].to_vec(),
+        [&second[..], &[0]].concat(),
+        message(US, 7),
+        message(OTHER, 2),
+        message(OTHER, 7),
+        message(OTHER, 0),
+    ] {
+        all.push(sending(0, 0, &[&first[..], &wrong].concat()));
+    }
+    all
+}
+
+/// The refusal that is told in the line.
+fn told(wrong: Wrong) -> u32 {
+    match wrong {
+        Wrong::Refused { refusal, .. } | Wrong::Plan { refusal } => refusal,
+        Wrong::TooLong | Wrong::Number { .. } | Wrong::CompId { .. } => 0,
+    }
+}
+
+fn note_sending(tally: &mut Tally, run: &Sending) {
+    if let Some(sendings) = &mut tally.sendings {
+        note(&SENDINGS, sendings, run);
+    }
+}
+
+/// A run of the bench: its bytes, or its line. Where it wrote the answer to the end
+/// of the list, a session takes it.
+fn hold_sending(tally: &mut Tally, rng: &mut Rng, command: &[&str], input: &[u8]) {
+    let output = printed(command, input, Stdio::piped());
+    let line = String::from_utf8_lossy(&output.stderr).into_owned();
+    let shown = || format!("bench {}", hex(input));
+    let asked = match gateway::asked(input) {
+        Some(asked) => asked,
+        None => {
+            // Another first line. The bench says so in words of its own.
+            let is_one_line =
+                line.starts_with("bench: ") && line.find('\n') == Some(line.len() - 1);
+            let proved = (Hex(output.stdout), is_one_line);
+            tally.hold(0, (Hex(Vec::new()), true), proved, shown);
+            note_sending(tally, &Sending::default());
+            return;
+        }
+    };
+    let answer = gateway::send(asked.list, asked.start, asked.end);
+    let twin = match &answer {
+        Ok(bytes) => (Hex(bytes.clone()), String::new()),
+        Err(wrong) => (Hex(Vec::new()), format!("{}\n", wrong)),
+    };
+    let refusal = answer.as_ref().err().map_or(0, |&wrong| told(wrong));
+    tally.hold(refusal, twin, (Hex(output.stdout.clone()), line), shown);
+    let list = split(asked.list);
+    let run = Sending {
+        start: asked.start,
+        end: asked.end,
+        length: asked.list.len(),
+        count: list.len() as u32,
+        answer: Some(answer.map(|bytes| bytes.len())),
+    };
+    note_sending(tally, &run);
+    if run.is_taken() {
+        let comp_id = reader::comp_id(asked.list);
+        let session = some_asking(rng, comp_id, run.start, run.count);
+        hold_answer(tally, &session, &list, &output.stdout);
+    }
+}
+
+fn sendings(tally: &mut Tally, rng: &mut Rng, command: &str, stored: &[Vec<u8>], count: u64) {
+    let command: Vec<&str> = command.split_whitespace().collect();
+    tally.sendings = Some([0; SENDINGS.len()]);
+    for input in stored.iter().chain(&every_sending(rng)) {
+        hold_sending(tally, rng, &command, input);
+    }
+    for _ in 0..count {
+        let input = some_sending(rng);
+        hold_sending(tally, rng, &command, &input);
     }
 }
 
@@ -3006,6 +3679,11 @@ struct Options {
     count: u64,
     sheets: u64,
     daysheet: Option<String>,
+    /// Random inputs for the bench.
+    sendings: u64,
+    bench: Option<String>,
+    /// The stored inputs for it.
+    stored: Vec<Vec<u8>>,
 }
 
 fn options() -> Options {
@@ -3014,6 +3692,9 @@ fn options() -> Options {
         count: 2_600_000,
         sheets: 240,
         daysheet: None,
+        sendings: 200,
+        bench: None,
+        stored: Vec::new(),
     };
     let mut times = 1;
     let mut words = std::env::args().skip(1);
@@ -3024,16 +3705,25 @@ fn options() -> Options {
             "--count" => options.count = next().parse().unwrap_or_else(|_| usage()),
             "--long" => times = 10,
             "--daysheet" => options.daysheet = Some(next()),
+            "--bench" => options.bench = Some(next()),
+            "--lists" => options.stored = stored_lists(&next()),
             _ => usage(),
         }
     }
     options.count *= times;
     options.sheets *= times;
+    options.sendings *= times;
+    if options.bench.is_none() && !options.stored.is_empty() {
+        usage();
+    }
     options
 }
 
 fn usage() -> ! {
-    eprintln!("compare [--seed N] [--count N] [--long] [--daysheet \"COMMAND..\"]");
+    eprintln!(
+        "compare [--seed N] [--count N] [--long] [--daysheet \"COMMAND..\"] \
+         [--bench \"COMMAND..\" [--lists FOLDER]]"
+    );
     exit(2);
 }
 
@@ -3041,7 +3731,7 @@ fn main() {
     let options = options();
     println!("compare: seed {}", options.seed);
     let mut tally = Tally::new();
-    let runs: [fn(&mut Tally, &mut Rng, u64); CATEGORIES.len() - 1] = [
+    let runs: [fn(&mut Tally, &mut Rng, u64); CATEGORIES.len() - 2] = [
         short_inputs,
         valid_messages,
         writes,
@@ -3054,6 +3744,7 @@ fn main() {
         many_messages,
         holes,
         joins,
+        ends_meet,
         texts,
         versions,
     ];
@@ -3074,6 +3765,15 @@ fn main() {
     match &options.daysheet {
         Some(command) => daysheets(&mut tally, &mut rng(runs.len()), command, options.sheets),
         None => println!("daysheet: skipped, --daysheet \"COMMAND..\" is not given"),
+    }
+    tally.category += 1;
+    match &options.bench {
+        Some(command) => {
+            let mut rng = rng(tally.category);
+            let stored = &options.stored;
+            sendings(&mut tally, &mut rng, command, stored, options.sendings);
+        }
+        None => println!("bench: skipped, --bench \"COMMAND..\" is not given"),
     }
     tally.end();
 }
