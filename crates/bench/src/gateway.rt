@@ -112,22 +112,19 @@ fn mark_list(list: &[u8], marks: &mut [u8]) -> Listed {
     Listed::TooMany
 }
 
-// The message at the front of s in plain form, with PossDup 1.
+// The message at the front of s in plain form, with PossDup 1. It was read when the list was looked at, and is not read again: the writer makes its
+// own checks.
 fn put_again(d: &mut [u8], s: &[u8]) -> Written {
-    match read(s) {
-        Reading::Good { header, length } => {
-            let again = Header {
-                messagetype: header.messagetype,
-                number: header.number,
-                possdup: 1,
-                possresend: header.possresend,
-            };
-            let mut map = [0u8; MAP_BYTES];
-            put_bytes(&mut map, map_in(s));
-            write(d, again, comp_id_in(s), &map, body_in(length, s))
-        }
-        Reading::Refused(refusal) => Written::Refused(refusal),
-    }
+    let header = header_in(s);
+    let again = Header {
+        messagetype: header.messagetype,
+        number: header.number,
+        possdup: 1,
+        possresend: header.possresend,
+    };
+    let mut map = [0u8; MAP_BYTES];
+    put_bytes(&mut map, map_in(s));
+    write(d, again, comp_id_in(s), &map, body_in(front_length(s), s))
 }
 
 // One part of the plan, over the list from its first number on.
@@ -182,11 +179,15 @@ fn send_parts(list: &[u8], pairs: &[u32], count: usize) -> Sent
     Sent::All
 }
 
-// A line that ends in a number.
-fn complain_with(what: &[u8], n: u32) {
-    complain(what);
+// The end of a line on standard error that ends in a number.
+fn end_with(n: u32) {
     io::print_decimal(STDERR_FILENO, n as u64);
     io::write_all(STDERR_FILENO, b"\n");
+}
+
+fn complain_with(what: &[u8], n: u32) {
+    complain(what);
+    end_with(n);
 }
 
 fn complain_of_sent(sent: Sent) {
@@ -224,16 +225,16 @@ fn complain_of(k: usize, what: &[u8]) {
     io::write_all(STDERR_FILENO, what);
 }
 
-fn complain_of_number(k: usize, what: &[u8], n: u32) {
-    complain_of(k, what);
-    io::print_decimal(STDERR_FILENO, n as u64);
-    io::write_all(STDERR_FILENO, b"\n");
-}
-
 fn complain_of_fault(k: usize, fault: Fault) {
     match fault {
-        Fault::Refused(r) => complain_of_number(k, b"is refused ", r),
-        Fault::Bears(n) => complain_of_number(k, b"bears number ", n),
+        Fault::Refused(r) => {
+            complain_of(k, b"is refused ");
+            end_with(r);
+        }
+        Fault::Bears(n) => {
+            complain_of(k, b"bears number ");
+            end_with(n);
+        }
         Fault::OtherCompId => complain_of(k, b"has another Comp ID than the first\n"),
     }
 }

@@ -5,8 +5,7 @@ use mathlib.Core.Bool.{true, cond}
 use mathlib.Core.List.{List, [], _∷_, map}
 use lib.Dec.{eqb, leb}
 use lib.ListN.{length, getD, take, drop}
-use Rattle.wire.specs.Map.{mapBytes, mapPositions}
-use Rattle.fields.specs.Cut.{positions}
+use Rattle.wire.specs.Map.{mapBytes}
 use Rattle.message.specs.declared.frame.Header.{Header}
 use Rattle.message.specs.declared.read.Reading.the-variants.{Good}
 use Rattle.message.specs.declared.vet.Vetted.the-variants as vetted
@@ -19,12 +18,12 @@ use Rattle.plan.specs.Plan.{Part, business, gapFill, partsOf}
 use Rattle.session.specs.declared.state.Session.{Session}
 use Rattle.session.specs.declared.state.State.the-variants.{Live}
 use Rattle.session.specs.Arrival.{isOurs}
-use Rattle.demands.specs.Content.{Content, fieldsAt, said, isBusiness}
+use Rattle.demands.specs.Content.{Content, saying, said, isBusiness}
 use Rattle.demands.specs.Gateway.{Published, businessOf, afterAll, handedAll}
 use Rattle.demands.specs.Run.{lendAll, Quiet}
 use Rattle.demands.specs.Fill.{Fill}
 
--- the list as the bench has it: for the numbers 1, 2, .. whether each is business (1) or session (0)
+-- the list as the bench has it (document 01, "The bench's resend plan"): for the numbers 1, 2, .. whether each is business (1) or session (0)
 unfoldable pub marksOf : List Content → List ℕ
 marksOf = map (λ (m : Content). cond (isBusiness m) 1 0)
 
@@ -71,13 +70,7 @@ pub data AllWritable (compId : List ℕ) : ℕ → List Outgoing → Type 0 wher
 
 -- what such a message says
 unfoldable pub saysOf : List ℕ → Outgoing → Content
-saysOf compId x = record {
-  messagetype = x .head .messagetype;
-  number = x .head .number;
-  compId = compId;
-  map = x .map;
-  fields = fieldsAt (x .head .messagetype) (x .map) (x .body) (positions (x .map) mapPositions 0);
-}
+saysOf compId x = saying (x .head .messagetype) (x .head .number) compId (x .map) (x .body)
 
 -- the bytes that `write` reports and leaves at the front of a buffer; none where it refuses
 unfoldable pub reported : Written → List ℕ → List ℕ
@@ -88,7 +81,7 @@ reported (Refused r) d = []
 unfoldable pub bytesOf : List ℕ → List ℕ → Outgoing → List ℕ
 bytesOf compId d x = reported (sendOf x compId d) (sent x compId d)
 
--- the same message with PossDup 1
+-- the same message with PossDup 1 (004 section 5.1)
 unfoldable pub again : Outgoing → Outgoing
 again x = record {
   head = record { messagetype = x .head .messagetype; number = x .head .number; possdup = 1; possresend = x .head .possresend };
