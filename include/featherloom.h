@@ -31,7 +31,7 @@ extern "C" {
  * the two before any other call: where they differ, structs and functions may differ as well.
  */
 #define FEATHERLOOM_VERSION_MAJOR 4
-#define FEATHERLOOM_VERSION_MINOR 1
+#define FEATHERLOOM_VERSION_MINOR 2
 #define FEATHERLOOM_VERSION_PATCH 0
 #define FEATHERLOOM_VERSION \
     (10000 * FEATHERLOOM_VERSION_MAJOR + 100 * FEATHERLOOM_VERSION_MINOR + FEATHERLOOM_VERSION_PATCH)
@@ -61,6 +61,7 @@ enum {
     FEATHERLOOM_NOT_DOWN = 21,        /* Connect on a session that is up */
     FEATHERLOOM_NO_NUMBER = 22,       /* our numbers are used up */
     FEATHERLOOM_BAD_SAVED = 23,       /* a saved number of 0 */
+    FEATHERLOOM_BAD_INTERVAL = 24,    /* a line's interval that is not 1 to 60 seconds */
     FEATHERLOOM_STOP_NUMBER = 30,     /* stopped: a number below E */
     FEATHERLOOM_STOP_COMP_ID = 31,    /* stopped: not our Comp ID */
     FEATHERLOOM_STOP_TYPE = 32,       /* stopped: a type out of place */
@@ -70,8 +71,8 @@ enum {
     FEATHERLOOM_STOP_LAST = 36,       /* stopped: the gateway's numbers are used up */
     FEATHERLOOM_STOP_REPEATS = 37,    /* stopped: asked again twice from the same E, and the answer still has a hole at it */
     FEATHERLOOM_BAD_REQUEST = 40,     /* a plan's list, Start or End is bad; half a pair among numbers to join */
-    FEATHERLOOM_NOT_A_SESSION = 90,   /* no day has such a session: it comes back as it was */
-    FEATHERLOOM_NOT_A_SEND = 91       /* no session gives such a message to send; of a Logon: this session has none to send */
+    FEATHERLOOM_NOT_A_SESSION = 90,   /* no day has such a session or such a line: it comes back as it was */
+    FEATHERLOOM_NOT_A_SEND = 91       /* no call gives such a message to send; of a Logon: this session has none to send */
 };
 
 /*
@@ -342,15 +343,17 @@ typedef struct featherloom_connected {
 
 enum {
     FEATHERLOOM_SEND_NONE = 0,
-    FEATHERLOOM_SEND_HEARTBEAT = 1,     /* first: the ID that it answers, at most 65,535 */
+    FEATHERLOOM_SEND_HEARTBEAT = 1,      /* first: the ID that it answers, at most 65,535 */
     FEATHERLOOM_SEND_LOGOUT = 2,
-    FEATHERLOOM_SEND_GAP_FILL = 3,      /* number: the first number it covers, at least 1; first: New Sequence Number, above it */
-    FEATHERLOOM_SEND_RESEND_REQUEST = 4 /* first: Start Sequence, 1 to 4,294,967,294; second: End Sequence, always 0: all */
+    FEATHERLOOM_SEND_GAP_FILL = 3,       /* number: the first number it covers, at least 1; first: New Sequence Number, above it */
+    FEATHERLOOM_SEND_RESEND_REQUEST = 4, /* first: Start Sequence, 1 to 4,294,967,294; second: End Sequence, always 0: all */
+    FEATHERLOOM_SEND_TEST_REQUEST = 5,   /* first: its ID, which is its own number modulo 65,536; a tick gives it, no step */
+    FEATHERLOOM_SEND_BARE_HEARTBEAT = 6  /* without an ID; a tick gives it, no step */
 };
 
 /*
- * A message to send: featherloom_put makes its bytes. Heartbeat, Logout and Resend Request have one of our numbers, 2 to
- * 4,294,967,294. Members of which nothing is said are 0.
+ * A message to send: featherloom_put makes its bytes. All but a gap fill have one of our numbers, 2 to 4,294,967,294. Members of
+ * which nothing is said are 0.
  */
 typedef struct featherloom_send {
     uint32_t kind;
@@ -468,7 +471,7 @@ static inline featherloom_done featherloom_steps(featherloom_session session, co
 
 /*
  * A message to send, as bytes for the session's Comp ID; none for FEATHERLOOM_SEND_NONE. Refusals in this order: 90; 91 for
- * every value that no step of any session can give, and for no other; 11 with the length needed.
+ * every value that neither a step of any session nor a tick of any line can give, and for no other; 11 with the length needed.
  */
 featherloom_written featherloom_put(uint8_t *buffer, size_t room, featherloom_session session, featherloom_send send);
 
@@ -480,6 +483,133 @@ featherloom_written featherloom_put(uint8_t *buffer, size_t room, featherloom_se
  */
 featherloom_written featherloom_put_logon(uint8_t *buffer, size_t room, featherloom_session session, const uint8_t *password,
                                           size_t count);
+
+/*
+ * A line with a clock (document 02, item 2): a session that is told the time at each call, so that silence is seen. It is a
+ * value, as a session is, and its calls are the session's; one call more, featherloom_line_tick, acts by the time alone.
+ *
+ * Times are milliseconds of any clock of the caller's, 64 bits wide. A time earlier than the latest given counts as that latest,
+ * and every call's time counts, whatever the call answers; of a refused call nothing else does. FEATHERLOOM_NOT_A_SESSION alone
+ * gives the line back as it was, its time too. Only a Live session is timed, and both waits start when Live begins.
+ *
+ * Every call checks the line first. One that passes: its session does; the interval is 1 to 60; `tested` is 0 or 1; `sent` and
+ * `heard` are at most `now`; and the three are 0 unless the session is Live.
+ */
+typedef struct featherloom_line {
+    featherloom_session session;
+    uint32_t interval; /* seconds, 1 to 60 */
+    uint32_t tested;   /* 1 once this silence has had its Test Request */
+    uint64_t now;      /* the latest time given; 0 before the first */
+    uint64_t sent;     /* when a message was last to be sent, or Live began; 0 unless Live */
+    uint64_t heard;    /* when a message whose checksum held was last stepped on, or Live began; 0 unless Live */
+} featherloom_line;
+
+/* A line; on a refusal of fresh or saved it is one that every call refuses, and of drop the one that was given. */
+typedef struct featherloom_line_made {
+    uint32_t refusal;
+    featherloom_line line;
+} featherloom_line_made;
+
+/*
+ * As featherloom_connected, but that a refusal other than 90 takes the time. featherloom_put_logon makes the Logon's bytes from
+ * the line's session.
+ */
+typedef struct featherloom_line_connected {
+    uint32_t refusal;
+    featherloom_line line;
+    uint32_t number;
+    uint32_t next;
+    size_t besides;
+} featherloom_line_connected;
+
+/* As featherloom_stepped, but that an answer other than 90 takes the time. */
+typedef struct featherloom_line_stepped {
+    uint32_t refusal;
+    featherloom_line line;
+    featherloom_send first;
+    featherloom_send second;
+    featherloom_row row;
+    size_t used;
+    size_t besides;
+} featherloom_line_stepped;
+
+/* As featherloom_done, but that a refusal other than 90 takes the time. */
+typedef struct featherloom_line_done {
+    uint32_t refusal;
+    featherloom_line line;
+    size_t used;
+    size_t rows;
+    size_t sends;
+    uint32_t ended;
+    uint32_t code;
+    size_t besides;
+} featherloom_line_done;
+
+enum {
+    FEATHERLOOM_ACT_NONE = 0,
+    FEATHERLOOM_ACT_DOWN = 1, /* three intervals without hearing: the line is Down, as by featherloom_line_drop; close it */
+    FEATHERLOOM_ACT_TEST_REQUEST = 2,
+    FEATHERLOOM_ACT_HEARTBEAT = 3
+};
+
+/*
+ * What a tick did, and the message to send: a Test Request or a Heartbeat without ID, else FEATHERLOOM_SEND_NONE. Refusal 22: one
+ * of them is due while our numbers are used up; the line is Down, and nothing is sent.
+ */
+typedef struct featherloom_ticked {
+    uint32_t refusal;
+    uint32_t act;
+    featherloom_line line;
+    featherloom_send send;
+} featherloom_ticked;
+
+/* Whether a tick will be due (1) or not (0), and when; the time is 0 where none is due. */
+typedef struct featherloom_next_tick {
+    uint32_t refusal;
+    uint32_t due;
+    uint64_t time;
+} featherloom_next_tick;
+
+/* A fresh day with an interval in seconds. Refusals 6, 24. */
+featherloom_line_made featherloom_line_fresh(const uint8_t *comp_id, size_t count, uint32_t interval);
+
+/* A saved day with an interval in seconds. Refusals 23, 6, 24. */
+featherloom_line_made featherloom_line_saved(const uint8_t *comp_id, size_t count, uint32_t expected, uint32_t own,
+                                             uint32_t interval);
+
+/*
+ * The session's calls at a time: what each does to the session, and what it answers, is what the session's own call does, with the
+ * same refusals in the same order.
+ */
+featherloom_line_connected featherloom_line_connect(featherloom_line line, uint64_t time, const uint8_t *password, size_t count);
+featherloom_line_made featherloom_line_drop(featherloom_line line, uint64_t time);
+featherloom_line_stepped featherloom_line_step(featherloom_line line, uint64_t time, const uint8_t *bytes, size_t count);
+featherloom_line_done featherloom_line_steps_flat(featherloom_line line, uint64_t time, const uint8_t *bytes, size_t count,
+                                                  uint32_t *rows, size_t row_room, uint32_t *sends, size_t send_room);
+
+/* The same over lists of structs, as featherloom_steps. */
+static inline featherloom_line_done featherloom_line_steps(featherloom_line line, uint64_t time, const uint8_t *bytes,
+                                                           size_t count, featherloom_placed *rows, size_t row_slots,
+                                                           featherloom_send *sends, size_t send_slots) {
+    return featherloom_line_steps_flat(line, time, bytes, count, (uint32_t *)rows, FEATHERLOOM_A_ROW * row_slots,
+                                       (uint32_t *)sends, FEATHERLOOM_A_SEND * send_slots);
+}
+
+/*
+ * The call that acts, by the time alone: at most one of three, in this order, each due once its time is reached.
+ * - Down: three intervals have passed without hearing. Nothing is sent, and E and O are kept.
+ * - A Test Request: two have passed without hearing, and this silence has had none.
+ * - A Heartbeat without ID: one has passed without sending.
+ * A line that is not Live is told the time, and nothing else changes. A second tick at the same time does nothing. Refusals 90,
+ * 22.
+ */
+featherloom_ticked featherloom_line_tick(featherloom_line line, uint64_t time);
+
+/*
+ * The earliest time, not before the latest given, at which a tick would act, if nothing else is called before. None is due where
+ * the line is not Live, or where it would be past 64 bits. Refusal 90.
+ */
+featherloom_next_tick featherloom_line_next_tick(featherloom_line line);
 
 /*
  * The resend plan of a gateway, for a test bench.
@@ -540,6 +670,16 @@ FEATHERLOOM_ASSERT(sizeof(featherloom_send) == 4 * FEATHERLOOM_A_SEND);
 FEATHERLOOM_ASSERT(sizeof(featherloom_done) == 80);
 FEATHERLOOM_ASSERT(offsetof(featherloom_done, ended) == 64);
 FEATHERLOOM_ASSERT(offsetof(featherloom_done, besides) == 72);
+FEATHERLOOM_ASSERT(sizeof(featherloom_line) == 64);
+FEATHERLOOM_ASSERT(offsetof(featherloom_line, now) == 40);
+FEATHERLOOM_ASSERT(sizeof(featherloom_line_made) == 72);
+FEATHERLOOM_ASSERT(sizeof(featherloom_line_connected) == 88);
+FEATHERLOOM_ASSERT(sizeof(featherloom_line_stepped) == 136);
+FEATHERLOOM_ASSERT(offsetof(featherloom_line_stepped, used) == 120);
+FEATHERLOOM_ASSERT(sizeof(featherloom_line_done) == 112);
+FEATHERLOOM_ASSERT(offsetof(featherloom_line_done, ended) == 96);
+FEATHERLOOM_ASSERT(sizeof(featherloom_ticked) == 88);
+FEATHERLOOM_ASSERT(sizeof(featherloom_next_tick) == 16);
 FEATHERLOOM_ASSERT(sizeof(featherloom_planned) == 16);
 #undef FEATHERLOOM_ASSERT
 

@@ -136,11 +136,15 @@ pub fn daysheet(input: &[u8]) -> Vec<u8> {
             RowSort::Reset => "reset",
         };
         // A line can bring nothing else out: it holds no Test Request and no
-        // Resend Request, and Next Expected equals O.
+        // Resend Request, and Next Expected equals O. No step gives what a tick does.
         let out = match answer.sends[0] {
             Send::ResendRequest { .. } => "resend",
             Send::Logout { .. } => "logout",
-            Send::None | Send::Heartbeat { .. } | Send::GapFill { .. } => "none",
+            Send::None
+            | Send::Heartbeat { .. }
+            | Send::GapFill { .. }
+            | Send::TestRequest { .. }
+            | Send::BareHeartbeat { .. } => "none",
         };
         text.push_str(&format!(
             "row={} first={} last={} next={} out={}\n",

@@ -3,8 +3,8 @@
 //! (the layouts). It shares nothing with the proved code and exists to be held
 //! against it.
 //!
-//! `reader`, `writer`, `session`, `plan`, `gateway` and `daysheet` follow the
-//! papers line by line and care for nothing but clearness. `plain` is a second
+//! `reader`, `writer`, `session`, `line`, `plan`, `gateway` and `daysheet` follow
+//! the papers line by line and care for nothing but clearness. `plain` is a second
 //! decoder and writer, written for speed, only to be measured. `make` makes test
 //! input, and `reports` what is measured.
 
@@ -13,6 +13,7 @@
 pub mod crc;
 pub mod daysheet;
 pub mod gateway;
+pub mod line;
 pub mod make;
 pub mod plain;
 pub mod plan;

@@ -5,6 +5,7 @@
 
 use crate::crc::crc32c;
 use crate::gateway::is_business;
+use crate::line::{self, Line};
 use crate::plan::A_PAIR;
 use crate::reader;
 use crate::session::{self, Phase, Session, LAST};
@@ -1103,6 +1104,121 @@ pub fn hole_events(rng: &mut Rng, start: &Start, count: usize) -> Vec<Event> {
 /// What a bad line brings in one read.
 pub fn hole_slice(rng: &mut Rng, session: &Session, count: usize) -> Vec<u8> {
     back_to_back(rng, session, count, bad_line)
+}
+
+// ---- Lines with a clock (document 02, item 2) ----
+
+/// An interval, often at the ends of the range or beside them.
+pub fn interval(rng: &mut Rng) -> u32 {
+    match rng.below(3) {
+        0 => [1, 2, 59, 60][rng.index(4)],
+        _ => 1 + rng.below(60) as u32,
+    }
+}
+
+/// An interval in milliseconds.
+pub fn milliseconds(interval: u32) -> u64 {
+    u64::from(interval) * line::SECOND
+}
+
+/// How many intervals something is due after.
+fn intervals(rng: &mut Rng) -> u64 {
+    1 + rng.below(line::TO_DOWN)
+}
+
+/// A wait of so many milliseconds, one less, or one more.
+fn or_beside(rng: &mut Rng, wait: u64) -> u64 {
+    match rng.below(4) {
+        0 => wait.saturating_sub(1),
+        1 => wait.saturating_add(1),
+        _ => wait,
+    }
+}
+
+/// A time for a clock to begin at: 0 or soon after it, the last there is or not long
+/// before it, or any. Often just so many intervals lie between it and the last.
+pub fn first_time(rng: &mut Rng, interval: u32) -> u64 {
+    let wait = milliseconds(interval);
+    match rng.below(6) {
+        0 => 0,
+        1 => rng.below(4 * wait),
+        2 => u64::MAX - rng.below(8 * wait),
+        3 => {
+            let before = intervals(rng) * wait;
+            u64::MAX - or_beside(rng, before)
+        }
+        _ => rng.draw() >> rng.below(64),
+    }
+}
+
+/// The times at which one, two and three intervals have passed since a line sent and
+/// since it heard, each with a millisecond less and more. One past the last time is
+/// the last.
+pub fn edge_times(line: &Line) -> Vec<u64> {
+    let wait = milliseconds(line.interval);
+    let mut all = Vec::new();
+    for since in [line.sent, line.heard] {
+        for count in 1..=line::TO_DOWN {
+            let at = since.saturating_add(count * wait);
+            all.extend([at.saturating_sub(1), at, at.saturating_add(1)]);
+        }
+    }
+    all
+}
+
+/// The time of the next call on a line. The clock stands, goes back, goes on or
+/// jumps, and often comes to where something is due, or to a millisecond beside it.
+pub fn time(rng: &mut Rng, line: &Line) -> u64 {
+    let wait = milliseconds(line.interval);
+    let next = line.next_tick();
+    match (rng.below(20), next) {
+        (0 | 1, _) => line.now,
+        (2, _) => line.now.saturating_sub(1 + rng.below(4 * wait)),
+        (3, _) => rng.below(line.now.max(1)),
+        (4..=11, Some(next)) => or_beside(rng, next),
+        (12..=14, Some(_)) => {
+            let edges = edge_times(line);
+            edges[rng.index(edges.len())]
+        }
+        (15, _) => line.now.saturating_add(rng.below(8 * wait)),
+        _ => line.now.saturating_add(rng.below(wait)),
+    }
+}
+
+/// A line over a session. Where that is Live, the times at which it sent and heard lie
+/// so many intervals back, or anywhere.
+pub fn line_over(rng: &mut Rng, session: Session) -> Line {
+    let interval = interval(rng);
+    let now = first_time(rng, interval);
+    let mut line = Line {
+        session,
+        interval,
+        tested: 0,
+        now,
+        sent: 0,
+        heard: 0,
+    };
+    if line.is_live() {
+        line.tested = rng.below(2) as u32;
+        line.sent = before(rng, &line);
+        line.heard = before(rng, &line);
+    }
+    line
+}
+
+/// A time that lies before a line's latest, or is it.
+fn before(rng: &mut Rng, line: &Line) -> u64 {
+    let wait = milliseconds(line.interval);
+    let back = match rng.below(5) {
+        0 => 0,
+        1 => rng.draw() >> rng.below(64),
+        2 => {
+            let passed = intervals(rng) * wait;
+            or_beside(rng, passed)
+        }
+        _ => rng.below(4 * wait),
+    };
+    line.now.saturating_sub(back)
 }
 
 /// A good list for the resend plan.

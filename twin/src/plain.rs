@@ -1175,6 +1175,8 @@ fn numbers(send: &Send) -> [u32; A_SEND] {
         Send::Logout { number } => [2, number, 0, 0],
         Send::GapFill { first, new } => [3, first, new, 0],
         Send::ResendRequest { number, start, end } => [4, number, start, end],
+        Send::TestRequest { number, id } => [5, number, u32::from(id), 0],
+        Send::BareHeartbeat { number } => [6, number, 0, 0],
     }
 }
 

@@ -171,6 +171,92 @@ impl Done {
 
 #[repr(C)]
 #[derive(Clone, Copy, Debug, Default, PartialEq, Eq)]
+pub struct Line {
+    pub session: Session,
+    pub interval: u32,
+    pub tested: u32,
+    pub now: u64,
+    pub sent: u64,
+    pub heard: u64,
+}
+
+#[repr(C)]
+#[derive(Clone, Copy, Debug, Default, PartialEq, Eq)]
+pub struct LineMade {
+    pub refusal: u32,
+    pub line: Line,
+}
+
+#[repr(C)]
+#[derive(Clone, Copy, Debug, Default, PartialEq, Eq)]
+pub struct LineConnected {
+    pub refusal: u32,
+    pub line: Line,
+    pub number: u32,
+    pub next: u32,
+    pub besides: usize,
+}
+
+#[repr(C)]
+#[derive(Clone, Copy, Debug, Default, PartialEq, Eq)]
+pub struct LineStepped {
+    pub refusal: u32,
+    pub line: Line,
+    pub first: Send,
+    pub second: Send,
+    pub row: Row,
+    pub used: usize,
+    pub besides: usize,
+}
+
+#[repr(C)]
+#[derive(Clone, Copy, Debug, Default, PartialEq, Eq)]
+pub struct LineDone {
+    pub refusal: u32,
+    pub line: Line,
+    pub used: usize,
+    pub rows: usize,
+    pub sends: usize,
+    pub ended: u32,
+    pub code: u32,
+    pub besides: usize,
+}
+
+impl LineDone {
+    /// What a session did, beside the line that is left.
+    pub fn of(line: Line, done: Done) -> LineDone {
+        LineDone {
+            refusal: done.refusal,
+            line,
+            used: done.used,
+            rows: done.rows,
+            sends: done.sends,
+            ended: done.ended,
+            code: done.code,
+            besides: done.besides,
+        }
+    }
+}
+
+#[repr(C)]
+#[derive(Clone, Copy, Debug, Default, PartialEq, Eq)]
+pub struct LineTicked {
+    pub refusal: u32,
+    pub act: u32,
+    pub line: Line,
+    pub send: Send,
+}
+
+#[repr(C)]
+#[derive(Clone, Copy, Debug, Default, PartialEq, Eq)]
+pub struct LineNext {
+    pub refusal: u32,
+    pub due: u32,
+    pub time: u64,
+}
+
+#[repr(C)]
+#[derive(Clone, Copy, Debug, Default, PartialEq, Eq)]
 pub struct Planned {
     pub refusal: u32,
     pub pairs: usize,
@@ -191,6 +277,13 @@ const _: () = assert!(
         && size_of::<Row>() == 12
         && size_of::<Stepped>() == 96
         && size_of::<Done>() == 80
+        && size_of::<Line>() == 64
+        && size_of::<LineMade>() == 72
+        && size_of::<LineConnected>() == 88
+        && size_of::<LineStepped>() == 136
+        && size_of::<LineDone>() == 112
+        && size_of::<LineTicked>() == 88
+        && size_of::<LineNext>() == 16
         && size_of::<Planned>() == 16
 );
 
@@ -238,6 +331,34 @@ extern "C" {
         password: *const u8,
         count: usize,
     ) -> Written;
+    fn featherloom_line_fresh(comp_id: *const u8, count: usize, interval: u32) -> LineMade;
+    fn featherloom_line_saved(
+        comp_id: *const u8,
+        count: usize,
+        expected: u32,
+        own: u32,
+        interval: u32,
+    ) -> LineMade;
+    fn featherloom_line_connect(
+        line: Line,
+        time: u64,
+        password: *const u8,
+        count: usize,
+    ) -> LineConnected;
+    fn featherloom_line_drop(line: Line, time: u64) -> LineMade;
+    fn featherloom_line_step(line: Line, time: u64, bytes: *const u8, count: usize) -> LineStepped;
+    fn featherloom_line_steps_flat(
+        line: Line,
+        time: u64,
+        bytes: *const u8,
+        count: usize,
+        rows: *mut u32,
+        row_room: usize,
+        sends: *mut u32,
+        send_room: usize,
+    ) -> LineDone;
+    fn featherloom_line_tick(line: Line, time: u64) -> LineTicked;
+    fn featherloom_line_next_tick(line: Line) -> LineNext;
     fn featherloom_plan(
         list: *const u8,
         count: usize,
@@ -386,6 +507,55 @@ pub fn put_logon(buffer: &mut [u8], session: Session, password: &[u8]) -> Writte
             password.len(),
         )
     }
+}
+
+pub fn line_fresh(comp_id: &[u8], interval: u32) -> LineMade {
+    unsafe { featherloom_line_fresh(at(comp_id), comp_id.len(), interval) }
+}
+
+pub fn line_saved(comp_id: &[u8], expected: u32, own: u32, interval: u32) -> LineMade {
+    unsafe { featherloom_line_saved(at(comp_id), comp_id.len(), expected, own, interval) }
+}
+
+pub fn line_connect(line: Line, now: u64, password: &[u8]) -> LineConnected {
+    unsafe { featherloom_line_connect(line, now, at(password), password.len()) }
+}
+
+pub fn line_drop(line: Line, now: u64) -> LineMade {
+    unsafe { featherloom_line_drop(line, now) }
+}
+
+pub fn line_step(line: Line, now: u64, bytes: &[u8]) -> LineStepped {
+    unsafe { featherloom_line_step(line, now, at(bytes), bytes.len()) }
+}
+
+pub fn line_steps(
+    line: Line,
+    now: u64,
+    bytes: &[u8],
+    rows: &mut [u32],
+    sends: &mut [u32],
+) -> LineDone {
+    unsafe {
+        featherloom_line_steps_flat(
+            line,
+            now,
+            at(bytes),
+            bytes.len(),
+            at_mut(rows),
+            rows.len(),
+            at_mut(sends),
+            sends.len(),
+        )
+    }
+}
+
+pub fn line_tick(line: Line, now: u64) -> LineTicked {
+    unsafe { featherloom_line_tick(line, now) }
+}
+
+pub fn line_next_tick(line: Line) -> LineNext {
+    unsafe { featherloom_line_next_tick(line) }
 }
 
 pub fn plan(list: &[u8], start: u32, end: u32, numbers: &mut [u32]) -> Planned {

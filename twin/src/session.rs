@@ -25,7 +25,7 @@ pub const BAD_RESEND: u32 = 34;
 pub const BAD_NEXT_EXPECTED: u32 = 35;
 pub const LAST_TAKEN: u32 = 36;
 pub const REPEATS_SPENT: u32 = 37;
-/// The C interface's own: a message to send that no session gives.
+/// The C interface's own: a message to send that no call gives.
 pub const NOT_A_SEND: u32 = 91;
 
 /// How often we ask again from the same E while M stands (document 02, item 3).
@@ -47,10 +47,30 @@ pub enum Phase {
 #[derive(Clone, Copy, Debug, PartialEq, Eq)]
 pub enum Send {
     None,
-    Heartbeat { number: u32, id: u16 },
-    Logout { number: u32 },
-    GapFill { first: u32, new: u32 },
-    ResendRequest { number: u32, start: u32, end: u32 },
+    Heartbeat {
+        number: u32,
+        id: u16,
+    },
+    Logout {
+        number: u32,
+    },
+    GapFill {
+        first: u32,
+        new: u32,
+    },
+    ResendRequest {
+        number: u32,
+        start: u32,
+        end: u32,
+    },
+    /// A tick of a line gives these two, and no step (document 02, item 2).
+    TestRequest {
+        number: u32,
+        id: u16,
+    },
+    BareHeartbeat {
+        number: u32,
+    },
 }
 
 impl Send {
@@ -64,6 +84,8 @@ impl Send {
             Send::ResendRequest { number, start, end } => {
                 writer::resend_request(number, comp_id, start, end)
             }
+            Send::TestRequest { number, id } => writer::test_request(number, comp_id, id),
+            Send::BareHeartbeat { number } => writer::heartbeat(number, comp_id),
         }
     }
 }
@@ -90,16 +112,23 @@ const HEARTBEAT: u32 = 1;
 const LOGOUT: u32 = 2;
 const GAP_FILL: u32 = 3;
 const RESEND_REQUEST: u32 = 4;
+const TEST_REQUEST: u32 = 5;
+const BARE_HEARTBEAT: u32 = 6;
 /// The greatest of them.
-pub const LAST_KIND: u32 = RESEND_REQUEST;
+pub const LAST_KIND: u32 = BARE_HEARTBEAT;
 
-/// The numbers that a step's own messages take. A session that is up has sent a
+/// The numbers that our own messages take. A session that is up has sent a
 /// Logon, and that took the first at least; the last is never used.
 const OWN_NUMBERS: RangeInclusive<u32> = 2..=LAST - 1;
 
 /// The E that a Resend Request asks from. A message lies ahead of it, so it is
 /// not the last number.
 const STARTS: RangeInclusive<u32> = 1..=LAST - 1;
+
+/// The ID of our Test Request: the number that it bears, modulo 65,536.
+pub fn test_request_id(number: u32) -> u16 {
+    (number % 65_536) as u16
+}
 
 impl Send {
     /// The numbers of a list for the message: its kind, its own number and two
@@ -113,10 +142,13 @@ impl Send {
             Send::ResendRequest { number, start, end } => {
                 Some([RESEND_REQUEST, number, start, end])
             }
+            Send::TestRequest { number, id } => Some([TEST_REQUEST, number, u32::from(id), 0]),
+            Send::BareHeartbeat { number } => Some([BARE_HEARTBEAT, number, 0, 0]),
         }
     }
 
-    /// The message of these numbers; None where no step of any session gives them.
+    /// The message of these numbers; None where neither a step of any session nor a
+    /// tick of any line gives them.
     pub fn of_numbers([kind, number, first, second]: [u32; A_SEND]) -> Option<Send> {
         // Only a Resend Request has a second value, and it always asks for all.
         if second != 0 {
@@ -140,6 +172,11 @@ impl Send {
                 start: first,
                 end: 0,
             }),
+            TEST_REQUEST if is_own => {
+                let id = test_request_id(number);
+                (first == u32::from(id)).then_some(Send::TestRequest { number, id })
+            }
+            BARE_HEARTBEAT if is_own && first == 0 => Some(Send::BareHeartbeat { number }),
             _ => None,
         }
     }
@@ -359,8 +396,8 @@ impl Session {
     }
 
     /// A message to send as bytes under our Comp ID; none for no message. 91 for
-    /// numbers that no step of any session gives, 11; a refusal leaves `out` as it
-    /// was.
+    /// numbers that neither a step nor a tick gives, 11; a refusal leaves `out` as
+    /// it was.
     pub fn put(&self, send: [u32; A_SEND], out: &mut [u8]) -> Result<usize, Refusal> {
         let send = Send::of_numbers(send).ok_or_else(|| refuse(NOT_A_SEND, 0))?;
         writer::put(&send.bytes(&self.comp_id)?, out)
@@ -682,7 +719,7 @@ impl Session {
     }
 
     /// Our next number. The caller has seen that O is below the last one.
-    fn take_number(&mut self) -> u32 {
+    pub(crate) fn take_number(&mut self) -> u32 {
         let number = self.o;
         self.o += 1;
         number

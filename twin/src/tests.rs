@@ -1,5 +1,6 @@
 use crate::daysheet::daysheet;
 use crate::gateway::{self, Asked, Wrong};
+use crate::line::{Act, Line, Ticked, BAD_INTERVAL, NO_ACT};
 use crate::make::{self, Event, Given, Rng, Sent, Text};
 use crate::plan::{join, plan, A_PAIR, BAD_PLAN, LONGEST_LIST, LONGEST_PLAN};
 use crate::reader::{self, Value, A_FIELD};
@@ -1772,7 +1773,7 @@ fn putting_what_a_session_gives() {
         assert!(!taken(send));
     }
     // Our own numbers.
-    for (kind, first) in [(1, 0), (2, 0), (4, 1)] {
+    for (kind, first) in [(1, 0), (2, 0), (4, 1), (6, 0)] {
         for (number, good) in [
             (0, false),
             (1, false),
@@ -1824,15 +1825,44 @@ fn putting_what_a_session_gives() {
     ] {
         assert_eq!(taken([4, 2, start, 0]), good);
     }
+    // A Test Request's ID is its number modulo 65,536.
+    for (number, id, good) in [
+        (0, 0, false),
+        (1, 1, false),
+        (2, 1, false),
+        (2, 2, true),
+        (2, 3, false),
+        (2, 65_538, false),
+        (65_535, 65_535, true),
+        (65_536, 0, true),
+        (65_536, 65_536, false),
+        (65_537, 1, true),
+        (65_537, 65_537, false),
+        (LAST - 1, 65_534, true),
+        (LAST - 1, LAST - 1, false),
+        (LAST, 65_535, false),
+    ] {
+        assert_eq!(taken([5, number, id, 0]), good);
+    }
+    // A Heartbeat without ID has none.
+    assert!(!taken([6, 2, 1, 0]));
+    assert!(!taken([6, 2, 2, 0]));
     // No kind has a second value, and there are no more kinds.
-    for good in [[1, 2, 0, 0], [2, 2, 0, 0], [3, 1, 2, 0], [4, 2, 1, 0]] {
+    for good in [
+        [1, 2, 0, 0],
+        [2, 2, 0, 0],
+        [3, 1, 2, 0],
+        [4, 2, 1, 0],
+        [5, 2, 2, 0],
+        [6, 2, 0, 0],
+    ] {
         assert!(taken(good));
         for second in [1, 2, LAST] {
             assert!(!taken([good[0], good[1], good[2], second]));
         }
     }
-    for kind in [LAST_KIND + 1, 6, 257, LAST] {
-        for rest in [[0, 0, 0], [2, 1, 0], [1, 2, 0]] {
+    for kind in [LAST_KIND + 1, 8, 257, LAST] {
+        for rest in [[0, 0, 0], [2, 1, 0], [2, 2, 0], [1, 2, 0]] {
             assert!(!taken([kind, rest[0], rest[1], rest[2]]));
         }
     }
@@ -1849,6 +1879,9 @@ fn putting_as_bytes() {
             ([2, 7, 0, 0], writer::logout(7, US)),
             ([3, 5, 9, 0], writer::gap_fill(5, US, 9)),
             ([4, 7, 3, 0], writer::resend_request(7, US, 3, 0)),
+            ([5, 7, 7, 0], writer::test_request(7, US, 7)),
+            ([5, 65_543, 7, 0], writer::test_request(65_543, US, 7)),
+            ([6, 7, 0, 0], writer::heartbeat(7, US)),
         ] {
             let length = bytes.as_ref().unwrap().len();
             assert_eq!(put_with(length, |out| session.put(send, out)), bytes);
@@ -1867,9 +1900,9 @@ fn putting_as_bytes() {
     }
 }
 
-/// A step that gives this message, if there is one: a session that is up, and
-/// what arrives. The numbers are taken as they are wherever a session can have
-/// them.
+/// A step or a tick that gives this message, if there is one: a session that is up,
+/// and what arrives or how long nothing does. The numbers are taken as they are
+/// wherever a session can have them.
 fn giving(send: Send) -> Option<[Send; 2]> {
     let up = |phase, e, o| {
         let good = e >= 1 && o >= 2;
@@ -1879,6 +1912,10 @@ fn giving(send: Send) -> Option<[Send; 2]> {
         })
     };
     let live = |e, o| up(Phase::Live, e, o);
+    let ticked = |o, seconds: u64| {
+        let mut line = over(live(1, o)?, 1, 0);
+        Some([line.tick(1_000 * seconds).send, Send::None])
+    };
     let answer = match send {
         Send::None => live(1, 2)?.step(&business(1)),
         Send::Heartbeat { number, id } => live(1, number)?.step(&test_request_of(1, id)),
@@ -1887,15 +1924,17 @@ fn giving(send: Send) -> Option<[Send; 2]> {
         Send::ResendRequest { number, start, .. } => {
             live(start, number)?.step(&business(start.checked_add(1)?))
         }
+        Send::TestRequest { number, .. } => return ticked(number, 2),
+        Send::BareHeartbeat { number } => return ticked(number, 1),
     };
     Some(answer.sends)
 }
 
-/// Exactly what a step gives is taken: of all edges each that is taken is given
-/// by a step, and each message that is refused is given by none.
+/// Exactly what a step or a tick gives is taken: of all edges each that is taken is
+/// given by one, and each message that is refused is given by none.
 #[test]
-fn putting_exactly_what_steps_give() {
-    let edges = [0, 1, 2, 3, 65_535, 65_536, LAST - 2, LAST - 1, LAST];
+fn putting_exactly_what_calls_give() {
+    let edges = [0, 1, 2, 3, 65_534, 65_535, 65_536, LAST - 2, LAST - 1, LAST];
     let mut taken = 0;
     for kind in 0..=LAST_KIND {
         for number in edges {
@@ -1913,11 +1952,16 @@ fn putting_exactly_what_steps_give() {
                             first: number,
                             new: first,
                         },
-                        _ => Send::ResendRequest {
+                        4 => Send::ResendRequest {
                             number,
                             start: first,
                             end: second,
                         },
+                        5 => Send::TestRequest {
+                            number,
+                            id: first as u16,
+                        },
+                        _ => Send::BareHeartbeat { number },
                     };
                     let given = giving(unchecked).map(|sends| sends.contains(&unchecked));
                     // The struct must say all that the message says, and no more.
@@ -3509,6 +3553,567 @@ fn both_ends_meet_over_every_list() {
                 }
             }
         }
+    }
+}
+
+// ---- Silence on the line (document 02, item 2) ----
+
+/// A line over a session with an interval in seconds, as if Live began at this time.
+fn over(session: Session, interval: u32, now: u64) -> Line {
+    let since = if session.phase == Phase::Live { now } else { 0 };
+    Line {
+        session,
+        interval,
+        tested: 0,
+        now,
+        sent: since,
+        heard: since,
+    }
+}
+
+/// E 3 and O 9, an interval of ten seconds, Live since 100,000.
+fn timed() -> Line {
+    over(live(3, 9), 10, 100_000)
+}
+
+/// The clock of a line: the latest time, when it last sent and heard, and whether this
+/// silence has had its Test Request.
+fn clock(line: &Line) -> (u64, u64, u64, u32) {
+    (line.now, line.sent, line.heard, line.tested)
+}
+
+fn acted(act: Act, send: Send) -> Ticked {
+    Ticked {
+        refusal: 0,
+        act,
+        send,
+    }
+}
+
+fn tests(number: u32, id: u16) -> Ticked {
+    acted(Act::TestRequest, Send::TestRequest { number, id })
+}
+
+fn beats(number: u32) -> Ticked {
+    acted(Act::Heartbeat, Send::BareHeartbeat { number })
+}
+
+fn falls() -> Ticked {
+    acted(Act::Down, Send::None)
+}
+
+fn used_up() -> Ticked {
+    Ticked {
+        refusal: 22,
+        ..NO_ACT
+    }
+}
+
+#[test]
+fn line_made_from_a_day() {
+    for interval in [1, 2, 30, 59, 60] {
+        let line = Line::fresh(US, interval).unwrap();
+        assert_eq!(line, over(Session::fresh(US).unwrap(), interval, 0));
+        let line = Line::saved(US, 7, LAST, interval).unwrap();
+        let session = Session::saved(US, 7, LAST).unwrap();
+        assert_eq!(line, over(session, interval, 0));
+    }
+    for interval in [0, 61, 62, 256, 65_537, LAST] {
+        let refused = Err(refuse(BAD_INTERVAL, 0));
+        assert_eq!(Line::fresh(US, interval), refused);
+        assert_eq!(Line::saved(US, 1, 1, interval), refused);
+        // The day's own refusals come first, with a good interval too.
+        for interval in [interval, 1] {
+            assert_eq!(Line::fresh(b"", interval), Err(refuse(6, 0)));
+            assert_eq!(Line::saved(b"", 1, 1, interval), Err(refuse(6, 0)));
+            assert_eq!(Line::saved(b"", 0, 1, interval), Err(refuse(23, 0)));
+            assert_eq!(Line::saved(US, 1, 0, interval), Err(refuse(23, 0)));
+        }
+    }
+}
+
+/// A silence from its beginning to its end, with ticks all the time: one Heartbeat at
+/// one interval, one Test Request at two, Down at three, and nothing in between.
+#[test]
+fn line_silence_of_three_intervals() {
+    let mut line = timed();
+    assert_eq!(line.next_tick(), Some(110_000));
+    for (time, answer, clock_after, next) in [
+        (109_999, NO_ACT, (109_999, 100_000, 100_000, 0), 110_000),
+        (110_000, beats(9), (110_000, 110_000, 100_000, 0), 120_000),
+        (110_000, NO_ACT, (110_000, 110_000, 100_000, 0), 120_000),
+        (119_999, NO_ACT, (119_999, 110_000, 100_000, 0), 120_000),
+        (
+            120_000,
+            tests(10, 10),
+            (120_000, 120_000, 100_000, 1),
+            130_000,
+        ),
+        (120_000, NO_ACT, (120_000, 120_000, 100_000, 1), 130_000),
+        (129_999, NO_ACT, (129_999, 120_000, 100_000, 1), 130_000),
+    ] {
+        assert_eq!(line.tick(time), answer, "{}", time);
+        assert_eq!(clock(&line), clock_after, "{}", time);
+        assert_eq!(line.next_tick(), Some(next), "{}", time);
+    }
+    assert_eq!(state(&line.session), (Phase::Live, 3, 11, 0));
+    assert_eq!(line.tick(130_000), falls());
+    assert_eq!(clock(&line), (130_000, 0, 0, 0));
+    assert_eq!(state(&line.session), (Phase::Down, 3, 11, 0));
+    assert_eq!(line.next_tick(), None);
+    assert_eq!(line.tick(999_999), NO_ACT);
+    assert_eq!(clock(&line), (999_999, 0, 0, 0));
+}
+
+/// At most one of the three, in this order, each due once its time is reached.
+#[test]
+fn line_tick_order() {
+    let two_intervals = tests(9, 9);
+    for (sent, heard, tested, time, answer) in [
+        // All three are due.
+        (100_000, 100_000, 0, 130_000, falls()),
+        (100_000, 100_000, 0, u64::MAX, falls()),
+        (100_000, 100_000, 1, 130_000, falls()),
+        // Down alone.
+        (125_000, 100_000, 1, 130_000, falls()),
+        // The Test Request and a Heartbeat.
+        (100_000, 100_000, 0, 129_999, two_intervals),
+        (110_000, 100_000, 0, 120_000, two_intervals),
+        // The Test Request alone.
+        (110_001, 100_000, 0, 120_000, two_intervals),
+        // A silence that has had its Test Request.
+        (110_000, 100_000, 1, 120_000, beats(9)),
+        (110_001, 100_000, 1, 120_000, NO_ACT),
+        (119_999, 100_000, 1, 129_999, beats(9)),
+        // A Heartbeat alone, and nothing.
+        (100_000, 100_000, 0, 119_999, beats(9)),
+        (100_000, 105_000, 0, 110_000, beats(9)),
+        (100_001, 105_000, 0, 110_000, NO_ACT),
+        (105_000, 100_000, 0, 110_000, NO_ACT),
+    ] {
+        let mut line = timed();
+        line.now = sent.max(heard);
+        (line.sent, line.heard, line.tested) = (sent, heard, tested);
+        let before = line.clone();
+        assert_eq!(line.tick(time), answer, "{:?} {}", before, time);
+        // A second tick at the same time, or at an earlier one, does nothing.
+        let after = line.clone();
+        for again in [time, 0] {
+            assert_eq!(line.tick(again), NO_ACT);
+            assert_eq!(line, after);
+        }
+    }
+}
+
+#[test]
+fn line_test_request_id() {
+    for (o, id) in [
+        (2, 2),
+        (65_535, 65_535),
+        (65_536, 0),
+        (65_537, 1),
+        (LAST - 1, 65_534),
+    ] {
+        let mut line = over(live(3, o), 1, 0);
+        assert_eq!(line.tick(2_000), tests(o, id));
+        assert_eq!(line.session.o, o + 1);
+    }
+}
+
+/// The messages of a tick as bytes: flags 0, and only the fields that are named.
+#[test]
+fn line_messages() {
+    let mut line = over(live(3, 70_000), 1, 0);
+    let beat = line.tick(1_000).send.bytes(US).unwrap();
+    assert_eq!(beat, framed(0, 70_000, &[], &[]));
+    assert_eq!(beat.len(), 58);
+    let test = line.tick(2_000).send.bytes(US).unwrap();
+    assert_eq!(test, framed(1, 70_001, &[0], &4_465_u16.to_le_bytes()));
+    assert_eq!(test.len(), 60);
+}
+
+#[test]
+fn line_numbers_used_up() {
+    for tested in [0, 1] {
+        for (time, due) in [
+            (109_999, NO_ACT),
+            (110_000, used_up()),
+            (120_000, used_up()),
+            (130_000, falls()),
+        ] {
+            let mut line = over(with_hole(3, LAST, 7, 1), 10, 100_000);
+            line.tested = tested;
+            assert_eq!(line.tick(time), due);
+            if due == NO_ACT {
+                assert_eq!(numbers(&line.session), (3, LAST, 7, 1));
+            } else {
+                assert_eq!(state(&line.session), (Phase::Down, 3, LAST, 0));
+                assert_eq!(line.session.repeats, 0);
+                assert_eq!(clock(&line), (time, 0, 0, 0));
+            }
+        }
+    }
+    // The last of our numbers is used; the next message finds none.
+    let mut line = over(live(3, LAST - 1), 10, 100_000);
+    assert_eq!(line.tick(110_000), beats(LAST - 1));
+    assert_eq!(line.next_tick(), Some(120_000));
+    assert_eq!(line.tick(120_000), used_up());
+}
+
+/// What is heard ends the silence; what is sent, the other wait.
+#[test]
+fn line_hears_and_sends() {
+    let mut short = business(3);
+    short.pop();
+    let mut other_type = business(3);
+    other_type[3] = 11;
+    make::reseal(&mut other_type);
+    for (bytes, code, sent, heard, tested) in [
+        (business(3), 0, 100_000, 121_000, 0),
+        (behind(2), 0, 100_000, 121_000, 0),
+        (reset(9, 3), 0, 100_000, 121_000, 0),
+        (test_request(3), 0, 121_000, 121_000, 0),
+        (resend(3, 2, 0), 0, 121_000, 121_000, 0),
+        (business(5), 0, 121_000, 121_000, 0),
+        (bad_sum(business(3)), 4, 100_000, 100_000, 1),
+        (short, 1, 100_000, 100_000, 1),
+        (vec![], 1, 100_000, 100_000, 1),
+        // The session stops, so the line is no longer timed.
+        (other_type, 5, 0, 0, 0),
+        (vec![7], 2, 0, 0, 0),
+        (business(2), 30, 0, 0, 0),
+        (framed(6, 3, &[], &[]), 0, 0, 0, 0),
+    ] {
+        let mut line = timed();
+        line.tested = 1;
+        let mut session = line.session.clone();
+        let answer = line.step(121_000, &bytes);
+        assert_eq!(answer.code, code);
+        assert_eq!(answer, session.step(&bytes));
+        assert_eq!(line.session, session);
+        assert_eq!(clock(&line), (121_000, sent, heard, tested), "{:?}", bytes);
+    }
+}
+
+/// Hearing gives the next silence a Test Request of its own.
+#[test]
+fn line_each_silence_is_tested_once() {
+    let mut line = timed();
+    assert_eq!(line.tick(120_000), tests(9, 9));
+    assert_eq!(line.tick(125_000), NO_ACT);
+    line.step(129_999, &business(3));
+    assert_eq!(clock(&line), (129_999, 120_000, 129_999, 0));
+    assert_eq!(line.tick(130_000), beats(10));
+    assert_eq!(line.tick(149_999), tests(11, 11));
+    line.step(150_000, &bad_sum(business(4)));
+    assert_eq!(line.tick(159_998), NO_ACT);
+    assert_eq!(line.tick(159_999), falls());
+}
+
+/// Only Live is timed, and both waits start when Live begins.
+#[test]
+fn line_until_live() {
+    let mut line = Line::saved(US, 3, 8, 10).unwrap();
+    assert_eq!(line.tick(5_000), NO_ACT);
+    assert_eq!(line.step(6_000, &[]).code, 20);
+    assert_eq!(line.connect(7_000, b"\x7F"), Err(refuse(9, 0)));
+    assert_eq!(clock(&line), (7_000, 0, 0, 0));
+    let logon_sent = line.connect(50_000, b"pw").unwrap();
+    assert_eq!((logon_sent.number, logon_sent.next_expected), (8, 3));
+    assert_eq!(clock(&line), (50_000, 0, 0, 0));
+    assert_eq!(line.next_tick(), None);
+    // However long the gateway's Logon takes.
+    assert_eq!(line.tick(99_000), NO_ACT);
+    assert_eq!(line.step(99_500, &bad_sum(logon(3, 9))).code, 4);
+    assert_eq!(clock(&line), (99_500, 0, 0, 0));
+    line.step(100_000, &logon(3, 9));
+    assert_eq!(state(&line.session), (Phase::Live, 4, 9, 0));
+    assert_eq!(clock(&line), (100_000, 100_000, 100_000, 0));
+    assert_eq!(line.next_tick(), Some(110_000));
+    // 21 on a Live line: its time counts, and nothing else.
+    assert_eq!(line.connect(105_000, b""), Err(refuse(21, 0)));
+    assert_eq!(clock(&line), (105_000, 100_000, 100_000, 0));
+    line.drop(106_000);
+    assert_eq!(clock(&line), (106_000, 0, 0, 0));
+    assert_eq!(state(&line.session), (Phase::Down, 4, 9, 0));
+    // A later connection begins anew, at the latest time where the clock went back.
+    line.connect(90_000, b"").unwrap();
+    line.step(90_001, &logon(4, 10));
+    assert_eq!(clock(&line), (106_000, 106_000, 106_000, 0));
+}
+
+/// A time earlier than the latest given counts as that latest, in every call.
+#[test]
+fn line_clock_that_goes_back() {
+    let mut line = timed();
+    assert_eq!(line.tick(0), NO_ACT);
+    assert_eq!(line, timed());
+    line.step(108_000, &bad_sum(business(3)));
+    line.step(101_000, &business(3));
+    assert_eq!(clock(&line), (108_000, 100_000, 108_000, 0));
+    line.step(0, &test_request(4));
+    assert_eq!(clock(&line), (108_000, 108_000, 108_000, 0));
+    assert_eq!(line.connect(1, b""), Err(refuse(21, 0)));
+    assert_eq!(line.now, 108_000);
+    line.step(118_000, &[]);
+    assert_eq!(line.tick(3), beats(10));
+    assert_eq!(clock(&line), (118_000, 118_000, 108_000, 0));
+    line.drop(4);
+    assert_eq!(line.now, 118_000);
+}
+
+/// Many messages in one call, all at one time.
+#[test]
+fn line_many_messages() {
+    let lists = || (vec![UNLAID; ROOMY], vec![UNLAID; ROOMY]);
+    let spoiled = bad_sum(business(3));
+    for (messages, sent, heard, tested) in [
+        (vec![], 100_000, 100_000, 1),
+        (vec![spoiled.clone()], 100_000, 100_000, 1),
+        (vec![spoiled.clone(), spoiled.clone()], 100_000, 100_000, 1),
+        (vec![spoiled.clone(), business(3)], 100_000, 121_000, 0),
+        (vec![business(3), spoiled.clone()], 100_000, 121_000, 0),
+        (vec![business(3), test_request(4)], 121_000, 121_000, 0),
+        (vec![business(3), business(2)], 0, 0, 0),
+    ] {
+        let mut line = timed();
+        line.tested = 1;
+        let mut singles = line.clone();
+        let (mut rows, mut sends) = lists();
+        line.steps(121_000, &messages.concat(), &mut rows, &mut sends);
+        assert_eq!(clock(&line), (121_000, sent, heard, tested));
+        singles.step(121_000, &[]);
+        for message in &messages {
+            singles.step(121_000, message);
+        }
+        assert_eq!(line, singles);
+    }
+
+    // The step that finds no slot is not done: its Heartbeat is not sent.
+    let mut line = timed();
+    let bytes = [business(3), test_request(4)].concat();
+    let (mut rows, mut sends) = lists();
+    let done = line.steps(121_000, &bytes, &mut rows[..A_ROW], &mut sends);
+    assert_eq!((done.ended, done.sends), (Ended::NoSlot, 0));
+    assert_eq!(clock(&line), (121_000, 100_000, 121_000, 0));
+
+    // 11 and 20: the time counts, and nothing else.
+    let mut line = timed();
+    let done = line.steps(121_000, &bytes, &mut [], &mut sends);
+    assert_eq!((done.refusal, done.sends), (11, 2));
+    let told = Line {
+        now: 121_000,
+        ..timed()
+    };
+    assert_eq!(line, told);
+    line.drop(121_000);
+    let done = line.steps(121_001, &bytes, &mut rows, &mut sends);
+    assert_eq!((done.refusal, clock(&line)), (20, (121_001, 0, 0, 0)));
+
+    // Live begins within the call.
+    let mut line = over(waiting(3, 9), 10, 100_000);
+    let bytes = [logon(3, 9), business(4), bad_sum(business(5))].concat();
+    line.steps(100_500, &bytes, &mut rows, &mut sends);
+    assert_eq!(state(&line.session), (Phase::Live, 5, 9, 0));
+    assert_eq!(clock(&line), (100_500, 100_500, 100_500, 0));
+}
+
+/// Near the last time there is: what would be due past it is never due.
+#[test]
+fn line_at_the_last_times() {
+    const END: u64 = u64::MAX;
+    for (heard, sent, tested, next) in [
+        (END - 30_000, END - 10_000, 1, Some(END)),
+        (END - 29_999, END - 9_999, 1, None),
+        (END - 20_000, END - 9_999, 0, Some(END)),
+        (END - 19_999, END - 9_999, 0, None),
+        (END - 19_999, END - 10_000, 0, Some(END)),
+        (END - 20_000, END - 9_999, 1, None),
+        (END, END, 0, None),
+        // Due since long.
+        (0, 0, 0, Some(END)),
+    ] {
+        let mut line = timed();
+        line.now = heard.max(sent);
+        if heard == 0 {
+            line.now = END;
+        }
+        (line.sent, line.heard, line.tested) = (sent, heard, tested);
+        assert!(line.passes());
+        assert_eq!(line.next_tick(), next, "{:?}", line);
+        if line.now < END {
+            assert_eq!(line.tick(END - 1), NO_ACT);
+        }
+        assert_eq!(line.tick(END) == NO_ACT, next.is_none());
+        assert_eq!(line.now, END);
+    }
+}
+
+/// The earliest of what is due, and not before the latest time.
+#[test]
+fn line_next_tick() {
+    for (sent, heard, tested, now, next) in [
+        (100_000, 100_000, 0, 100_000, 110_000),
+        (115_000, 100_000, 0, 115_000, 120_000),
+        (115_000, 100_000, 1, 115_000, 125_000),
+        (125_000, 100_000, 1, 125_000, 130_000),
+        (110_000, 100_000, 0, 110_000, 120_000),
+        // Due already.
+        (100_000, 100_000, 0, 110_000, 110_000),
+        (100_000, 100_000, 0, 110_001, 110_001),
+        (118_000, 100_000, 0, 125_000, 125_000),
+        (118_000, 100_000, 1, 135_000, 135_000),
+    ] {
+        let mut line = timed();
+        (line.sent, line.heard, line.tested, line.now) = (sent, heard, tested, now);
+        assert_eq!(line.next_tick(), Some(next), "{:?}", line);
+        assert_ne!(line.clone().tick(next), NO_ACT);
+        if next > now {
+            assert_eq!(line.clone().tick(next - 1), NO_ACT);
+        }
+    }
+    for mut line in [timed(), over(waiting(3, 9), 10, 100_000)] {
+        line.drop(100_000);
+        assert_eq!(line.next_tick(), None);
+    }
+    assert_eq!(over(waiting(3, 9), 10, 100_000).next_tick(), None);
+}
+
+/// Each member on both sides of each of its bounds.
+#[test]
+fn line_from_outside() {
+    let down = over(Session::saved(US, 3, 9).unwrap(), 10, 100_000);
+    let waiting = over(waiting(3, 9), 10, 100_000);
+    for line in [timed(), waiting, down] {
+        assert!(line.passes());
+        for (interval, good) in [
+            (0, false),
+            (1, true),
+            (2, true),
+            (59, true),
+            (60, true),
+            (61, false),
+            (LAST, false),
+        ] {
+            let other = Line {
+                interval,
+                ..line.clone()
+            };
+            assert_eq!(other.passes(), good);
+        }
+        let is_live = line.is_live();
+        for (tested, good) in [(0, true), (1, is_live), (2, false), (256, false)] {
+            let other = Line {
+                tested,
+                ..line.clone()
+            };
+            assert_eq!(other.passes(), good);
+        }
+        for (since, good) in [
+            (0, true),
+            (1, is_live),
+            (99_999, is_live),
+            (100_000, is_live),
+            (100_001, false),
+            (u64::MAX, false),
+        ] {
+            let sent = Line {
+                sent: since,
+                ..line.clone()
+            };
+            let heard = Line {
+                heard: since,
+                ..line.clone()
+            };
+            assert_eq!(sent.passes(), good);
+            assert_eq!(heard.passes(), good);
+        }
+        let at_0 = over(line.session.clone(), 10, 0);
+        assert!(at_0.passes());
+    }
+}
+
+/// Gap fills from E to b and from b to c leave the line as one from E to c, at that
+/// time.
+#[test]
+fn line_two_gap_fills_as_one() {
+    for m in [0, 4, 5, 6, 7, 8, 9] {
+        let session = if m == 0 {
+            live(3, 9)
+        } else {
+            with_hole(3, 9, m, 1)
+        };
+        for time in [90_000, 100_000, 125_000] {
+            let mut at_once = over(session.clone(), 10, 100_000);
+            at_once.tested = 1;
+            let mut in_turn = at_once.clone();
+            at_once.step(time, &gap_fill(3, 8));
+            in_turn.step(time, &gap_fill(3, 6));
+            in_turn.step(time, &gap_fill(6, 8));
+            assert_eq!(in_turn, at_once);
+        }
+    }
+}
+
+/// Random days with clocks that stand, jump and go back: what the papers say of every
+/// line, whatever is called.
+#[test]
+fn line_days() {
+    let mut rng = Rng::new(21);
+    let mut acts = [0u32; 4];
+    let (mut used_up, mut begun, mut rows, mut sends) =
+        (0, 0, vec![0; 10 * ROOMY], vec![0; 10 * ROOMY]);
+    for _ in 0..3_000 {
+        let start = make::hole_start(&mut rng);
+        let interval = make::interval(&mut rng);
+        let mut line = Line::saved(&start.comp_id, start.e, start.o, interval).unwrap();
+        let mut time = make::first_time(&mut rng, interval);
+        for _ in 0..30 {
+            let before = line.clone();
+            let mut session = line.session.clone();
+            match (rng.below(10), session.phase) {
+                (0, _) => {
+                    line.drop(time);
+                    session.drop();
+                }
+                (1..=8, Phase::Down) => {
+                    assert_eq!(line.connect(time, b"pw"), session.connect(b"pw"));
+                }
+                (1..=4, Phase::Waiting) | (1..=2, Phase::Live) => {
+                    let bytes = make::arrival(&mut rng, &session);
+                    assert_eq!(line.step(time, &bytes), session.step(&bytes));
+                }
+                (5..=7, Phase::Waiting) | (3, Phase::Live) => {
+                    let bytes = make::slice(&mut rng, &session, 3);
+                    let done = line.steps(time, &bytes, &mut rows, &mut sends);
+                    assert_eq!(done, session.steps(&bytes, &mut rows, &mut sends));
+                }
+                _ => {
+                    let answer = line.tick(time);
+                    acts[answer.act as usize] += 1;
+                    used_up += (answer.refusal == 22) as u32;
+                    let is_due = before.next_tick().map_or(false, |next| next <= line.now);
+                    assert_eq!(answer != NO_ACT, is_due);
+                    if answer.act == Act::Down || answer.refusal == 22 {
+                        session.drop();
+                    } else if answer != NO_ACT {
+                        session.o += 1;
+                    }
+                    // A silence has one Test Request, so no Heartbeat is due between it
+                    // and Down.
+                    assert!(answer.act != Act::Heartbeat || before.tested == 0);
+                }
+            }
+            // With the clock left out the line is the session.
+            assert_eq!(line.session, session);
+            assert_eq!(line.now, before.now.max(time));
+            assert!(line.passes(), "{:?}", line);
+            begun += (line.is_live() && !before.is_live()) as u32;
+            time = make::time(&mut rng, &line);
+        }
+    }
+    for count in acts.into_iter().chain([used_up, begun]) {
+        assert!(count > 500, "{:?} {} {}", acts, used_up, begun);
     }
 }
 

@@ -61,11 +61,11 @@ module _ (s : Session) (bytes d₀ e₀ : List ℕ) where
         sends = laid-none _ e₀ (ap sendNumbers (ap (λ (n : Code). calledBy n s bytes (length d₀) (length e₀) .sends) r ∙ b)) .1;
       }
 
-  pub down-call : (x : Done) → s .state ≡ state.Down → x ≡ reports s down 0 0 0 (Down down) → Answers s bytes d₀ e₀ x d₀ e₀
+  pub down-call : (x : Done) → s .state ≡ state.Down → x ≡ reports s down 0 0 0 false (Down down) → Answers s bytes d₀ e₀ x d₀ e₀
   unfolding refusalIn calledBy reportOf slotsBy
   down-call x h r = nothing down x (ap (λ (p : State). refusalIn p (length d₀) (length e₀)) h) r refl refl
 
-  pub full-call : (x : Done) → (s .state ≡ state.Down → ⊥) → hasRoom (length d₀) (length e₀) ≡ false → x ≡ reports s full 0 1 2 NoSlot
+  pub full-call : (x : Done) → (s .state ≡ state.Down → ⊥) → hasRoom (length d₀) (length e₀) ≡ false → x ≡ reports s full 0 1 2 false NoSlot
       → Answers s bytes d₀ e₀ x d₀ e₀
   unfolding calledBy reportOf slotsBy
   full-call x up h r = nothing full x (refusal-up (s .state) up false h) r refl refl

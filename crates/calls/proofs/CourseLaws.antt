@@ -34,6 +34,7 @@ use Rattle.calls.specs.Steps.{
   sendsOf,
   rowNumbers,
   sendNumbers,
+  isHeard,
   Did,
   did,
   nextOf,
@@ -256,9 +257,10 @@ pub quick-turn : (at r q : ℕ) (s : Session) (left : List ℕ) → step s left 
       used = frontLength left;
       rows = record { row = row.Business (s .expected); at = at; size = frontLength left } ∷ [];
       sends = [];
+      heard = true;
       after = On;
     }
-unfolding turnOf turnBy fits stepDone rowAt sendsOf sendIn rowNumbers sendNumbers codeNumber sortNumber told nextOf take
+unfolding turnOf turnBy fits stepDone isHeard rowAt sendsOf sendIn rowNumbers sendNumbers codeNumber sortNumber told nextOf take
 quick-turn at r q s left e h m =
     let z : 0 ≤ q = omega arith in
     ap (turnBy at r q s left) e ∙ rw (le-leb at last h, le-leb 5 r m, le-leb 0 q z)

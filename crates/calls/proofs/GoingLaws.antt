@@ -2,6 +2,7 @@
 -- the turns makes up the whole course.
 use Prim.Native.Nat.{ℕ, _+_, _-_, _*_, _/_, _≤_}
 use mathlib.Core.Path.{_≡_, refl, sym, ap, ap₂, subst, _∙_}
+use mathlib.Core.Bool.{Bool, true, false, _||_, or-true, or-assoc}
 use mathlib.Core.List.{List, [], _∷_, _++_, append-nil, append-assoc}
 use native.Mathlib.Nat.{sub-zero, add-zero}
 use native.Mathlib.Omega.{arith}
@@ -29,11 +30,11 @@ use Rattle.calls.specs.Steps.{slotsBy, Placed, rowAt, rowNumbers, sendNu
 use Rattle.calls.proofs.CourseLaws.{numbers-rows, numbers-sends, turn-up, turn-within, turn-rows, turn-sends, turn-uses, length-rows, length-sends, course-turn, quick-turn}
 
 -- what the turns so far have done
-abbrev soFar : Session → ℕ → List Placed → List Send → Did Next
-soFar s used rows sends = record { session = s; used = used; rows = rows; sends = sends; after = On }
+abbrev soFar : Session → ℕ → List Placed → List Send → Bool → Did Next
+soFar s used rows sends heard = record { session = s; used = used; rows = rows; sends = sends; heard = heard; after = On }
 
 -- d and e are the lists, which were d₀ and e₀; s is the session, which was s₀
-pub record Going (s₀ : Session) (bytes d₀ e₀ d e : List ℕ) (s : Session) (used row-at send-at : ℕ) : Type 0 where
+pub record Going (s₀ : Session) (bytes d₀ e₀ d e : List ℕ) (s : Session) (used row-at send-at : ℕ) (heard : Bool) : Type 0 where
   pub rows : List Placed
   pub sends : List Send
   pub row-front : Front (rowNumbers rows) row-at d₀ d
@@ -42,24 +43,25 @@ pub record Going (s₀ : Session) (bytes d₀ e₀ d e : List ℕ) (s : Session)
   pub send-within : send-at ≤ length e₀
   pub within : used ≤ length bytes
   pub up : s .state ≡ Down → ⊥
-  pub whole : joined (soFar s used rows sends) (course used (length d₀ - row-at) (length e₀ - send-at) s (drop used bytes))
+  pub whole : joined (soFar s used rows sends heard) (course used (length d₀ - row-at) (length e₀ - send-at) s (drop used bytes))
       ≡ course 0 (length d₀) (length e₀) s₀ bytes
 
-nothing-joined : (s : Session) (x : Did Ended) → joined (soFar s 0 [] []) x ≡ x
+nothing-joined : (s : Session) (x : Did Ended) → joined (soFar s 0 [] [] false) x ≡ x
 unfolding joined
 nothing-joined s x =
     let z : 0 + x .used ≡ x .used = omega arith in
-    ap (λ (k : ℕ). record { session = x .session; used = k; rows = x .rows; sends = x .sends; after = x .after }) z
+    ap (λ (k : ℕ). record { session = x .session; used = k; rows = x .rows; sends = x .sends; heard = x .heard; after = x .after }) z
 
 -- one turn more
-joined-on : (s p : Session) (used : ℕ) (rows : List Placed) (sends : List Send) (t : Did Next) (x : Did Ended)
-    → joined (soFar s used rows sends) (joined t x) ≡ joined (soFar p (used + t .used) (rows ++ t .rows) (sends ++ t .sends)) x
+joined-on : (s p : Session) (used : ℕ) (rows : List Placed) (sends : List Send) (heard : Bool) (t : Did Next) (x : Did Ended)
+    → joined (soFar s used rows sends heard) (joined t x)
+    ≡ joined (soFar p (used + t .used) (rows ++ t .rows) (sends ++ t .sends) (heard || t .heard)) x
 unfolding joined
-joined-on s p used rows sends t x =
+joined-on s p used rows sends heard t x =
     let z : used + (t .used + x .used) ≡ used + t .used + x .used = omega arith in
-    rw (z, append-assoc rows (t .rows) (x .rows), append-assoc sends (t .sends) (x .sends)) refl
+    rw (z, append-assoc rows (t .rows) (x .rows), append-assoc sends (t .sends) (x .sends), or-assoc heard (t .heard) (x .heard)) refl
 
-pub going-start : (s : Session) (bytes d e : List ℕ) → (s .state ≡ Down → ⊥) → Going s bytes d e d e s 0 0 0
+pub going-start : (s : Session) (bytes d e : List ℕ) → (s .state ≡ Down → ⊥) → Going s bytes d e d e s 0 0 0 false
 unfolding rowNumbers sendNumbers
 going-start s bytes d e up = record {
   rows = [];
@@ -71,7 +73,7 @@ going-start s bytes d e up = record {
   within = omega arith;
   up = up;
   whole =
-      ap₂ (λ (r q : ℕ). joined (soFar s 0 [] []) (course 0 r q s bytes)) (sub-zero (length d)) (sub-zero (length e))
+      ap₂ (λ (r q : ℕ). joined (soFar s 0 [] [] false) (course 0 r q s bytes)) (sub-zero (length d)) (sub-zero (length e))
       ∙ nothing-joined s (course 0 (length d) (length e) s bytes);
 }
 
@@ -90,14 +92,15 @@ sends-on ws {a} {d} {x} f more y h q =
     subst (λ (w : List ℕ). Front w (a + length (sendNumbers more)) d (lentFrom a x y)) (sym (numbers-sends ws more))
     (front-on f (sendNumbers more) y (a + length (sendNumbers more)) refl h q)
 
-module _ {s₀ : Session} {bytes d₀ e₀ d e : List ℕ} {s : Session} {used row-at send-at : ℕ} (i : Going s₀ bytes d₀ e₀ d e s used row-at send-at)
+module _ {s₀ : Session} {bytes d₀ e₀ d e : List ℕ} {s : Session} {used row-at send-at : ℕ} {heard : Bool}
+    (i : Going s₀ bytes d₀ e₀ d e s used row-at send-at heard)
     (t : Did Next) (is : t ≡ turnOf used (length d₀ - row-at) (length e₀ - send-at) s (drop used bytes)) where
-  unrolled : joined (soFar s used (i .rows) (i .sends))
+  unrolled : joined (soFar s used (i .rows) (i .sends) heard)
       (follow course used (length d₀ - row-at) (length e₀ - send-at) (drop used bytes) t) ≡ course 0 (length d₀) (length e₀) s₀ bytes
   unrolled =
-      ap (λ (x : Did Next). joined (soFar s used (i .rows) (i .sends))
+      ap (λ (x : Did Next). joined (soFar s used (i .rows) (i .sends) heard)
       (follow course used (length d₀ - row-at) (length e₀ - send-at) (drop used bytes) x)) is
-      ∙ ap (joined (soFar s used (i .rows) (i .sends))) (sym (course-turn used (length d₀ - row-at) (length e₀ - send-at) s (drop used bytes) (i .up)))
+      ∙ ap (joined (soFar s used (i .rows) (i .sends) heard)) (sym (course-turn used (length d₀ - row-at) (length e₀ - send-at) s (drop used bytes) (i .up)))
       ∙ i .whole
 
   pub rows-room : row-at + length (rowNumbers (t .rows)) ≤ length d₀
@@ -119,6 +122,7 @@ module _ {s₀ : Session} {bytes d₀ e₀ d e : List ℕ} {s : Session} {used r
   pub going-on : t .after ≡ On → (d' e' : List ℕ) → Front (rowNumbers (i .rows ++ t .rows)) (row-at + length (rowNumbers (t .rows))) d₀ d'
       → Front (sendNumbers (i .sends ++ t .sends)) (send-at + length (sendNumbers (t .sends))) e₀ e'
       → Going s₀ bytes d₀ e₀ d' e' (t .session) (used + t .used) (row-at + length (rowNumbers (t .rows))) (send-at + length (sendNumbers (t .sends)))
+      (heard || t .heard)
   unfolding follow andThen joined
   going-on on d' e' f g =
       let R = length d₀ - row-at in
@@ -142,20 +146,27 @@ module _ {s₀ : Session} {bytes d₀ e₀ d e : List ℕ} {s : Session} {used r
         up = λ h. turn-up used R Q s (drop used bytes) (i .up) (subst (λ (x : Did Next). x .after ≡ On) is on)
             (subst (λ (x : Did Next). x .session .state ≡ Down) is h);
         whole =
-            ap (joined (soFar (t .session) (used + t .used) (i .rows ++ t .rows) (i .sends ++ t .sends))) same
-            ∙ sym (joined-on s (t .session) used (i .rows) (i .sends) t others)
-            ∙ ap (λ (x : Next). joined (soFar s used (i .rows) (i .sends)) (andThen t x others)) (sym on) ∙ unrolled;
+            ap (joined (soFar (t .session) (used + t .used) (i .rows ++ t .rows) (i .sends ++ t .sends) (heard || t .heard))) same
+            ∙ sym (joined-on s (t .session) used (i .rows) (i .sends) heard t others)
+            ∙ ap (λ (x : Next). joined (soFar s used (i .rows) (i .sends) heard) (andThen t x others)) (sym on) ∙ unrolled;
       }
 
   -- or ends here
   pub going-ends : (why : Ended) → t .after ≡ Ends why
       → course 0 (length d₀) (length e₀) s₀ bytes
-      ≡ record { session = t .session; used = used + t .used; rows = i .rows ++ t .rows; sends = i .sends ++ t .sends; after = why }
+      ≡ record {
+        session = t .session;
+        used = used + t .used;
+        rows = i .rows ++ t .rows;
+        sends = i .sends ++ t .sends;
+        heard = heard || t .heard;
+        after = why;
+      }
   unfolding follow andThen joined
   going-ends why h =
       let others = course (used + t .used) (length d₀ - row-at - length (rowNumbers (t .rows))) (length e₀ - send-at - length (sendNumbers (t .sends)))
       (t .session) (drop (t .used) (drop used bytes)) in
-      sym unrolled ∙ ap (λ (x : Next). joined (soFar s used (i .rows) (i .sends)) (andThen t x others)) h
+      sym unrolled ∙ ap (λ (x : Next). joined (soFar s used (i .rows) (i .sends) heard) (andThen t x others)) h
 
 -- a business row takes five numbers
 pub row-five : (at n e : ℕ) → length (rowNumbers (rowAt at n (Business e))) ≡ 5
@@ -173,7 +184,8 @@ module _ {w : List ℕ} {a : ℕ} {d₀ d : List ℕ} (f : Front w a d₀ d) (h 
   free-size : length (take (length d - a) (drop a d)) ≡ length d₀ - a
   free-size = ap length (rest-of d a) ∙ length-drop a d ∙ ap (λ (n : ℕ). n - a) same-size
 
-module _ {s₀ : Session} {bytes d₀ e₀ d e : List ℕ} {s : Session} {used row-at send-at : ℕ} (i : Going s₀ bytes d₀ e₀ d e s used row-at send-at)
+module _ {s₀ : Session} {bytes d₀ e₀ d e : List ℕ} {s : Session} {used row-at send-at : ℕ} {heard : Bool}
+    (i : Going s₀ bytes d₀ e₀ d e s used row-at send-at heard)
     (left : List ℕ) (l : left ≡ drop used bytes) where
   left-size : length left ≡ length bytes - used
   left-size = ap length l ∙ length-drop used bytes
@@ -187,6 +199,7 @@ module _ {s₀ : Session} {bytes d₀ e₀ d e : List ℕ} {s : Session} {used r
       used = n;
       rows = record { row = Business (s .expected); at = used; size = n } ∷ [];
       sends = [];
+      heard = true;
       after = On;
     }
 
@@ -194,14 +207,14 @@ module _ {s₀ : Session} {bytes d₀ e₀ d e : List ℕ} {s : Session} {used r
     unfolding quick
     is-quick =
         let h : 5 ≤ length d₀ - row-at = omega (arith, same-size (i .row-front) (i .row-within)) in
-        ap (λ (k : ℕ). record { session = takes s (s .expected + 1) (s .own) Nothing (Business (s .expected)) .session; used = k; rows = record { row = Business (s .expected); at = used; size = k } ∷ []; sends = []; after = On }) is
+        ap (λ (k : ℕ). record { session = takes s (s .expected + 1) (s .own) Nothing (Business (s .expected)) .session; used = k; rows = record { row = Business (s .expected); at = used; size = k } ∷ []; sends = []; heard = true; after = On }) is
         ∙ sym (quick-turn used (length d₀ - row-at) (length e₀ - send-at) s left taken place h)
         ∙ ap (turnOf used (length d₀ - row-at) (length e₀ - send-at) s) l
 
     pub going-quick : (p : Session) (b k : ℕ) (y : List ℕ) → p ≡ takes s (s .expected + 1) (s .own) Nothing (Business (s .expected)) .session
         → b ≡ s .expected → k ≡ length (rowNumbers (rowAt used n (Business b)))
         → y ≡ laid (rowNumbers (rowAt used n (Business b))) (take (length d - row-at) (drop row-at d))
-        → Going s₀ bytes d₀ e₀ (lentFrom row-at d y) e p (used + n) (row-at + k) send-at
+        → Going s₀ bytes d₀ e₀ (lentFrom row-at d y) e p (used + n) (row-at + k) send-at true
     unfolding quick rowAt sortNumber sendNumbers rowNumbers
     going-quick p b k y a same c q =
         let r = q ∙ ap (λ (x : ℕ). laid (rowNumbers (rowAt used n (Business x))) (take (length d - row-at) (drop row-at d))) same in
@@ -210,9 +223,10 @@ module _ {s₀ : Session} {bytes d₀ e₀ d e : List ℕ} {s : Session} {used r
         subst (λ (ws : List Send). Front (sendNumbers ws) (send-at + 0) e₀ e) (sym (append-nil (i .sends)))
         (subst (λ (m : ℕ). Front (sendNumbers (i .sends)) m e₀ e) (sym (add-zero send-at)) (i .send-front)) in
         let o = going-on i quick is-quick refl (lentFrom row-at d y) e f g in
-        subst (λ (m : ℕ). Going s₀ bytes d₀ e₀ (lentFrom row-at d y) e p (used + n) (row-at + k) m) (add-zero send-at)
-        (subst (λ (m : ℕ). Going s₀ bytes d₀ e₀ (lentFrom row-at d y) e p (used + n) (row-at + m) (send-at + 0)) (sym c)
-        (subst (λ (z : Session). Going s₀ bytes d₀ e₀ (lentFrom row-at d y) e z (used + n) (row-at + length (rowNumbers (quick .rows))) (send-at + 0)) (sym a) o))
+        subst (λ (m : ℕ). Going s₀ bytes d₀ e₀ (lentFrom row-at d y) e p (used + n) (row-at + k) m true) (add-zero send-at)
+        (subst (λ (m : ℕ). Going s₀ bytes d₀ e₀ (lentFrom row-at d y) e p (used + n) (row-at + m) (send-at + 0) true) (sym c)
+        (subst (λ (z : Session). Going s₀ bytes d₀ e₀ (lentFrom row-at d y) e z (used + n) (row-at + length (rowNumbers (quick .rows))) (send-at + 0) true) (sym a)
+        (subst (Going s₀ bytes d₀ e₀ (lentFrom row-at d y) e (quick .session) (used + n) (row-at + length (rowNumbers (quick .rows))) (send-at + 0)) (or-true heard) o)))
 
   -- a turn by the rules: the rests of the lists were lent to it, and are y and v then
   module _ (x : Turned) (y v : List ℕ)
@@ -247,17 +261,18 @@ module _ {s₀ : Session} {bytes d₀ e₀ d e : List ℕ} {s : Session} {used r
 
     pub going-next : x .next ≡ On
         → (58 ≤ x .used) × Going s₀ bytes d₀ e₀ (lentFrom row-at d y) (lentFrom send-at e v) (x .session) (used + x .used) (row-at + x .rows) (send-at + x .sends)
+        (heard || x .heard)
     unfolding t
     going-next on =
         let o : t .after ≡ On = ap (λ (z : Turned). z .next) (sym answer) ∙ on in
-        subst (λ (z : Turned). (58 ≤ z .used) × Going s₀ bytes d₀ e₀ (lentFrom row-at d y) (lentFrom send-at e v) (z .session) (used + z .used) (row-at + z .rows) (send-at + z .sends)) (sym answer) (
+        subst (λ (z : Turned). (58 ≤ z .used) × Going s₀ bytes d₀ e₀ (lentFrom row-at d y) (lentFrom send-at e v) (z .session) (used + z .used) (row-at + z .rows) (send-at + z .sends) (heard || z .heard)) (sym answer) (
           turn-uses used (length (take (length d - row-at) (drop row-at d))) (length (take (length e - send-at) (drop send-at e))) s left (i .up) o,
           going-on i t is-turn o (lentFrom row-at d y) (lentFrom send-at e v) row-laid send-laid,
         )
 
     -- the report's rows and messages to send are counted from the numbers laid
     pub going-last : (why : Ended) → x .next ≡ Ends why
-        → (done : Done) → done ≡ reports (x .session) code.Good (used + x .used) ((row-at + x .rows) / 5) ((send-at + x .sends) / 4) why
+        → (done : Done) → done ≡ reports (x .session) code.Good (used + x .used) ((row-at + x .rows) / 5) ((send-at + x .sends) / 4) (heard || x .heard) why
         → (done ≡ reportOf code.Good (course 0 (length d₀) (length e₀) s₀ bytes))
         × (lentFrom row-at d y ≡ laid (rowNumbers (course 0 (length d₀) (length e₀) s₀ bytes .rows)) d₀)
         × (lentFrom send-at e v ≡ laid (sendNumbers (course 0 (length d₀) (length e₀) s₀ bytes .sends)) e₀)
@@ -269,6 +284,6 @@ module _ {s₀ : Session} {bytes d₀ e₀ d e : List ℕ} {s : Session} {used r
         let u : (row-at + length (rowNumbers (t .rows))) / 5 ≡ length (i .rows ++ t .rows) = omega (arith, m) in
         let q : (send-at + length (sendNumbers (t .sends))) / 4 ≡ length (i .sends ++ t .sends) = omega (arith, n) in
         let same =
-        a ∙ ap (λ (z : Turned). reports (z .session) code.Good (used + z .used) ((row-at + z .rows) / 5) ((send-at + z .sends) / 4) why) answer
-        ∙ ap₂ (λ (rows sends : ℕ). reports (t .session) code.Good (used + t .used) rows sends why) u q in
+        a ∙ ap (λ (z : Turned). reports (z .session) code.Good (used + z .used) ((row-at + z .rows) / 5) ((send-at + z .sends) / 4) (heard || z .heard) why) answer
+        ∙ ap₂ (λ (rows sends : ℕ). reports (t .session) code.Good (used + t .used) rows sends (heard || t .heard) why) u q in
         (same ∙ ap (reportOf code.Good) (sym w), row-laid .is ∙ ap (λ (z : Did Ended). laid (rowNumbers (z .rows)) d₀) (sym w), send-laid .is ∙ ap (λ (z : Did Ended). laid (sendNumbers (z .sends)) e₀) (sym w))

@@ -1,6 +1,7 @@
 -- Two calls are one. Where a call did not end Down, a call on what it left and more bytes behind that goes on as one call on all of them would have.
 use Prim.Native.Nat.{ℕ, _+_, _-_, _≤_}
 use mathlib.Core.Path.{_≡_, refl, sym, ap, ap₂, subst, _∙_}
+use mathlib.Core.Bool.{or-assoc}
 use mathlib.Core.List.{List, _++_, append-assoc}
 use native.Mathlib.Nat.{add-comm, add-zero, zero-add, sub-zero}
 use native.Mathlib.Omega.{arith}
@@ -42,7 +43,7 @@ joined-assoc : {A B C : Type 0} (x : Did A) (y : Did B) (z : Did C) → joined (
 unfolding joined
 joined-assoc x y z =
     let e : x .used + y .used + z .used ≡ x .used + (y .used + z .used) = omega arith in
-    rw (e, append-assoc (x .rows) (y .rows) (z .rows), append-assoc (x .sends) (y .sends) (z .sends))
+    rw (e, append-assoc (x .rows) (y .rows) (z .rows), append-assoc (x .sends) (y .sends) (z .sends), or-assoc (x .heard) (y .heard) (z .heard))
 
 -- a call that did nothing, however it ended, and the next with the same room
 nothing-first : (at r q : ℕ) (s : Session) (left : List ℕ) {y : Did Ended} → Runs (at + 0) (r - 0) (q - 0) s left y

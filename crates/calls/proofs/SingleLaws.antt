@@ -3,6 +3,7 @@
 -- bytes than there are nor takes more numbers than are free.
 use Prim.Native.Nat.{ℕ, zero, suc, _+_, _-_, _≤_}
 use mathlib.Core.Path.{_≡_, refl, sym, ap, subst, _∙_}
+use mathlib.Core.Bool.{or-false}
 use mathlib.Core.List.{List, [], _++_, append-nil}
 use native.Mathlib.Omega.{arith}
 use lib.ListN.{length, drop, length-append, length-drop}
@@ -81,11 +82,11 @@ pub data Runs : ℕ → ℕ → ℕ → Session → List ℕ → Did Ended → T
 
 -- some steps, and then nothing
 joined-nothing : {A B : Type 0} (x : Did A) (why : B)
-    → joined x (did (x .session) why) ≡ record { session = x .session; used = x .used; rows = x .rows; sends = x .sends; after = why }
+    → joined x (did (x .session) why) ≡ record { session = x .session; used = x .used; rows = x .rows; sends = x .sends; heard = x .heard; after = why }
 unfolding joined
 joined-nothing x why =
     let e : x .used + 0 ≡ x .used = omega arith in
-    rw (e, append-nil (x .rows), append-nil (x .sends))
+    rw (e, append-nil (x .rows), append-nil (x .sends), or-false (x .heard))
 
 -- the course of what a step leaves
 module _ (at r q : ℕ) (s : Session) (left : List ℕ) where

@@ -1,6 +1,7 @@
 -- A turn as the code does it: what it gives back and what the lists hold then is what the turn says.
 use Prim.Native.Nat.{ℕ, _+_}
 use mathlib.Core.Path.{_≡_, refl, sym, ap, subst, _∙_}
+use mathlib.Core.Bool.{Bool}
 use mathlib.Core.List.{List, []}
 use lib.ListN.{length}
 use Rattle.message.specs.declared.read.Reading.{Reading}
@@ -19,7 +20,7 @@ use Rattle.session.specs.Day.{stepBy, step}
 use Rattle.session.specs.State.{take}
 use Rattle.session.specs.Turn.{takeDue}
 use Rattle.session.proofs.TurnLaws.{due-step}
-use Rattle.calls.specs.Steps.{rowAt, sendsOf, rowNumbers, sendNumbers, Did, did, nextOf, stepDone, turnedBy}
+use Rattle.calls.specs.Steps.{rowAt, sendsOf, rowNumbers, sendNumbers, isHeard, Did, did, nextOf, stepDone, turnedBy}
 use Rattle.calls.proofs.SlotLaws.{laid-none}
 
 -- what was read decides the step
@@ -49,14 +50,14 @@ turns-nothing t s why x d e p q =
     subst (λ (y : Did Next). Turns y x d d e e) (sym p) (record { answer = q; rows = laid-none [] d refl .1; sends = laid-none [] e refl .1 })
 
 -- the step is done
-pub turns-done : (t : Did Next) (at n r q : ℕ) (left : List ℕ) (x : Stepped) (next : Next) (d₀ d e₀ e : List ℕ) → t ≡ stepDone at left x
+pub turns-done : (t : Did Next) (at n r q : ℕ) (left : List ℕ) (x : Stepped) (heard : Bool) (next : Next) (d₀ d e₀ e : List ℕ) → t ≡ stepDone at left x
     → n ≡ frontLength left → r ≡ length (rowNumbers (rowAt at n (x .answer .row))) → d ≡ laid (rowNumbers (rowAt at n (x .answer .row))) d₀
     → q ≡ length (sendNumbers (sendsOf (x .answer))) → e ≡ laid (sendNumbers (sendsOf (x .answer))) e₀
-    → next ≡ nextOf (x .session .state) (x .answer .code)
-    → Turns t (record { session = x .session; used = n; rows = r; sends = q; next = next }) d₀ d e₀ e
+    → heard ≡ isHeard (x .answer .code) → next ≡ nextOf (x .session .state) (x .answer .code)
+    → Turns t (record { session = x .session; used = n; rows = r; sends = q; heard = heard; next = next }) d₀ d e₀ e
 unfolding stepDone
-turns-done t at n r q left x next d₀ d e₀ e p u f g h i j =
-    let y : Turned = record { session = x .session; used = n; rows = r; sends = q; next = next } in
+turns-done t at n r q left x heard next d₀ d e₀ e p u f g h i o j =
+    let y : Turned = record { session = x .session; used = n; rows = r; sends = q; heard = heard; next = next } in
     subst (λ (z : Did Next). Turns z y d₀ d e₀ e) (sym p)
-    (subst (λ (k : ℕ). Turns (stepDone at left x) (record { session = x .session; used = k; rows = r; sends = q; next = next }) d₀ d e₀ e) (sym u)
-    (record { answer = simp (f, h, j, u); rows = g ∙ ap (λ (k : ℕ). laid (rowNumbers (rowAt at k (x .answer .row))) d₀) u; sends = i }))
+    (subst (λ (k : ℕ). Turns (stepDone at left x) (record { session = x .session; used = k; rows = r; sends = q; heard = heard; next = next }) d₀ d e₀ e) (sym u)
+    (record { answer = simp (f, h, o, j, u); rows = g ∙ ap (λ (k : ℕ). laid (rowNumbers (rowAt at k (x .answer .row))) d₀) u; sends = i }))

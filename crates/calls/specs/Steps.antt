@@ -1,14 +1,14 @@
 -- Document 02, item 1: many messages in one call. The messages of a lent slice stand back to back, and each is stepped on in turn.
 use Prim.Native.Nat.{ℕ, zero, suc, _+_, _-_, _*_}
-use mathlib.Core.Bool.{Bool, cond, _&&_}
+use mathlib.Core.Bool.{Bool, false, cond, _&&_, _||_}
 use mathlib.Core.Path.{_≡_}
 use mathlib.Core.List.{List, [], _∷_, _++_, map}
-use lib.Dec.{eqb, leb}
+use lib.Dec.{eqb, leb, ltb}
 use lib.ListN.{length, drop}
 use Rattle.wire.specs.Laying.{laid}
 use Rattle.message.specs.Frame.{typeAt, frontLength}
 use Rattle.message.specs.declared.refusal.Refusal.the-variants.{NoRoom}
-use Rattle.message.specs.Refusal.{short}
+use Rattle.message.specs.Refusal.{short, badSum}
 use Rattle.session.specs.declared.state.Answer.{Answer}
 use Rattle.session.specs.declared.state.Code.{Code}
 use Rattle.session.specs.declared.state.Code.the-variants.{Good, Refused, Halted}
@@ -60,21 +60,33 @@ unfoldable pub sendNumbers : List Send → List ℕ
 sendNumbers [] = []
 sendNumbers (x ∷ xs) = told x .kind ∷ told x .number ∷ told x .first ∷ told x .second ∷ sendNumbers xs
 
--- what some steps did, and what comes after them
+-- document 02, item 2: a message counts as heard when its checksum holds: any answer but the reader's 1 to 4
+unfoldable pub isHeard : Code → Bool
+isHeard k = eqb (codeNumber k) 0 || ltb badSum (codeNumber k)
+
+-- what some steps did, whether any heard a message, and what comes after them
 pub record Did (A : Type 0) : Type 0 where
   pub session : Session
   pub used : ℕ
   pub rows : List Placed
   pub sends : List Send
+  pub heard : Bool
   pub after : A
 
 -- nothing
 abbrev pub did : {A : Type 0} → Session → A → Did A
-did s after = record { session = s; used = 0; rows = []; sends = []; after = after }
+did s after = record { session = s; used = 0; rows = []; sends = []; heard = false; after = after }
 
 -- these, and then those
 unfoldable pub joined : {A B : Type 0} → Did A → Did B → Did B
-joined x y = record { session = y .session; used = x .used + y .used; rows = x .rows ++ y .rows; sends = x .sends ++ y .sends; after = y .after }
+joined x y = record {
+  session = y .session;
+  used = x .used + y .used;
+  rows = x .rows ++ y .rows;
+  sends = x .sends ++ y .sends;
+  heard = x .heard || y .heard;
+  after = y .after;
+}
 
 -- after a step: Down ends the call, with the step's code
 unfoldable pub nextOf : State → Code → Next
@@ -88,6 +100,7 @@ stepDone at left x = record {
   used = frontLength left;
   rows = rowAt at (frontLength left) (x .answer .row);
   sends = sendsOf (x .answer);
+  heard = isHeard (x .answer .code);
   after = nextOf (x .session .state) (x .answer .code);
 }
 
@@ -107,7 +120,14 @@ turnOf at r q s left = turnBy at r q s left (step s left)
 
 -- a turn, with the numbers that it lays into each list counted
 abbrev pub turnedBy : Did Next → Turned
-turnedBy t = record { session = t .session; used = t .used; rows = length (rowNumbers (t .rows)); sends = length (sendNumbers (t .sends)); next = t .after }
+turnedBy t = record {
+  session = t .session;
+  used = t .used;
+  rows = length (rowNumbers (t .rows));
+  sends = length (sendNumbers (t .sends));
+  heard = t .heard;
+  next = t .after;
+}
 
 -- what a turn gives, r, and the lists d and e afterwards
 abbrev pub LaysTurn : ℕ → Session → List ℕ → List ℕ → List ℕ → Turned → List ℕ → List ℕ → Type 0
@@ -119,7 +139,7 @@ LaysTurn at s left d e r d′ e′ =
 -- a turn, and if the call goes on the turns after it
 unfoldable pub andThen : Did Next → Next → Did Ended → Did Ended
 andThen t On others = joined t others
-andThen t (Ends why) others = record { session = t .session; used = t .used; rows = t .rows; sends = t .sends; after = why }
+andThen t (Ends why) others = record { session = t .session; used = t .used; rows = t .rows; sends = t .sends; heard = t .heard; after = why }
 
 -- those have what the turn leaves: of the slice, of the lists, and the session
 unfoldable pub follow : (ℕ → ℕ → ℕ → Session → List ℕ → Did Ended) → ℕ → ℕ → ℕ → List ℕ → Did Next → Did Ended
@@ -158,11 +178,11 @@ slotsBy Good done needed = done
 slotsBy (Refused x) done needed = needed
 slotsBy (Halted h) done needed = done
 
-abbrev pub reports : Session → Code → ℕ → ℕ → ℕ → Ended → Done
-reports s k used rows sends ended = record { session = s; code = k; used = used; rows = rows; sends = sends; ended = ended }
+abbrev pub reports : Session → Code → ℕ → ℕ → ℕ → Bool → Ended → Done
+reports s k used rows sends heard ended = record { session = s; code = k; used = used; rows = rows; sends = sends; heard = heard; ended = ended }
 
 unfoldable pub reportOf : Code → Did Ended → Done
-reportOf k x = reports (x .session) k (x .used) (slotsBy k (length (x .rows)) 1) (slotsBy k (length (x .sends)) 2) (x .after)
+reportOf k x = reports (x .session) k (x .used) (slotsBy k (length (x .rows)) 1) (slotsBy k (length (x .sends)) 2) (x .heard) (x .after)
 
 -- a call that is not refused: its report r, and the lists d and e afterwards
 abbrev pub LaysRun : Session → List ℕ → List ℕ → List ℕ → Done → List ℕ → List ℕ → Type 0
@@ -196,4 +216,4 @@ unfoldable pub furtherRows : ℕ → List Placed → List Placed
 furtherRows n = map (λ (w : Placed). record { row = w .row; at = n + w .at; size = w .size })
 
 unfoldable pub further : {A : Type 0} → ℕ → Did A → Did A
-further n x = record { session = x .session; used = x .used; rows = furtherRows n (x .rows); sends = x .sends; after = x .after }
+further n x = record { session = x .session; used = x .used; rows = furtherRows n (x .rows); sends = x .sends; heard = x .heard; after = x .after }

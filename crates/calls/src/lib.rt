@@ -31,7 +31,7 @@ ghost use Rattle.message.specs.Read.{readOf};
 ghost use Rattle.session.specs.declared.state.State.the-variants as state;
 ghost use Rattle.session.specs.State.{last};
 ghost use Rattle.calls.specs.declared.Next.the-variants.{Ends};
-ghost use Rattle.calls.specs.Steps.{aRow, aSend, rowAt, sendIn, sendsOf, rowNumbers, sendNumbers, did, fits, nextOf, turnedBy, hasRoom, reports, LaysTurn, LaysRun, LaysSteps};
+ghost use Rattle.calls.specs.Steps.{aRow, aSend, rowAt, sendIn, sendsOf, rowNumbers, sendNumbers, isHeard, did, fits, nextOf, turnedBy, hasRoom, reports, LaysTurn, LaysRun, LaysSteps};
 
 // A row takes five numbers: its sort, its first and last number, where in the slice its message begins, and how long that is.
 pub const A_ROW: usize = 5;
@@ -50,14 +50,15 @@ pub enum Ended {
     NoSlot,
 }
 
-// What a call did: the bytes used, the rows and the messages to send that were written, and why it ended. The code is 0, or a
-// refusal: then nothing was done, and with 11 come the slots that are needed.
+// What a call did: the bytes used, the rows and the messages to send that were written, whether a message was heard, and why it
+// ended. The code is 0, or a refusal: then nothing was done, and with 11 come the slots that are needed.
 pub struct Done {
     pub session: Session,
     pub code: Code,
     pub used: usize,
     pub rows: usize,
     pub sends: usize,
+    pub heard: bool,
     pub ended: Ended,
 }
 
@@ -67,13 +68,22 @@ enum Next {
     Ends(Ended),
 }
 
-// What a turn adds: the bytes used, and how many numbers it laid into each list.
+// What a turn adds: the bytes used, how many numbers it laid into each list, and whether it heard a message.
 struct Turned {
     session: Session,
     used: usize,
     rows: usize,
     sends: usize,
+    heard: bool,
     next: Next,
+}
+
+// Whether a message that was answered so counts as heard: its checksum held, so that it is any answer but the reader's 1 to 4.
+pub fn is_heard(code: Code) -> bool
+    ensures { λ r. ⌜ r ≡ isHeard code ⌝ }
+{
+    let k = code.number();
+    (k == 0) | (BAD_SUM < k)
 }
 
 // The numbers of a row, over the first of d.
@@ -216,6 +226,7 @@ fn ends(session: Session, ended: Ended) -> Turned
         used: 0,
         rows: 0,
         sends: 0,
+        heard: false,
         next: Next::Ends(ended),
     }
 }
@@ -252,6 +263,7 @@ fn turn(
         used,
         rows: laid,
         sends: sent,
+        heard: is_heard(code),
         next: next_of(after.state(), code),
     }
 }
@@ -262,9 +274,10 @@ fn report(
     used: usize,
     rows: usize,
     sends: usize,
+    heard: bool,
     ended: Ended,
 ) -> Done
-    ensures { λ r. ⌜ r ≡ reports session code used rows sends ended ⌝ }
+    ensures { λ r. ⌜ r ≡ reports session code used rows sends heard ended ⌝ }
 {
     Done {
         session,
@@ -272,6 +285,7 @@ fn report(
         used,
         rows,
         sends,
+        heard,
         ended,
     }
 }
@@ -285,6 +299,7 @@ fn run(start: Session, s: &[u8], rows: &mut [u32], sends: &mut [u32]) -> Done
     let mut used: usize = 0;
     let mut row_at: usize = 0;
     let mut send_at: usize = 0;
+    let mut heard = false;
     loop {
         let rest = &s[used..];
         let reading = read(rest);
@@ -295,6 +310,7 @@ fn run(start: Session, s: &[u8], rows: &mut [u32], sends: &mut [u32]) -> Done
             row_at += put_row(&mut rows[row_at..], row, used, size);
             used += size;
             session = due.session;
+            heard = true;
             continue;
         }
         let turned = turn(
@@ -310,6 +326,7 @@ fn run(start: Session, s: &[u8], rows: &mut [u32], sends: &mut [u32]) -> Done
         used += turned.used;
         row_at += turned.rows;
         send_at += turned.sends;
+        heard = heard | turned.heard;
         match next {
             Next::On => {}
             Next::Ends(ended) => return report(
@@ -318,6 +335,7 @@ fn run(start: Session, s: &[u8], rows: &mut [u32], sends: &mut [u32]) -> Done
                 used,
                 row_at / A_ROW,
                 send_at / A_SEND,
+                heard,
                 ended,
             ),
         }
@@ -333,7 +351,7 @@ pub fn steps(session: Session, s: &[u8], rows: &mut [u32], sends: &mut [u32]) ->
     match state {
         State::Down => {
             let down = Code::Halted(Halt::Down);
-            return report(session, down, 0, 0, 0, Ended::Down(down));
+            return report(session, down, 0, 0, 0, false, Ended::Down(down));
         }
         State::Waiting => {}
         State::Live => {}
@@ -345,6 +363,7 @@ pub fn steps(session: Session, s: &[u8], rows: &mut [u32], sends: &mut [u32]) ->
             0,
             1,
             2,
+            false,
             Ended::NoSlot,
         );
     }

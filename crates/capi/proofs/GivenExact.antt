@@ -1,9 +1,10 @@
--- The check of messages to send is exact: each one that passes arises, and so none that a step cannot give passes. By the rules on a message, whatever
--- our Comp ID is.
+-- The check of messages to send is exact: each one that passes arises, and so none passes that neither a step nor a tick can give. By the rules on a
+-- message, or by a tick, whatever our Comp ID is.
 use Prim.Native.Nat.{ℕ, _+_, _<_, _≤_}
-use mathlib.Core.Path.{_≡_, refl, sym, ap, subst}
+use mathlib.Core.Path.{_≡_, refl, sym, ap, subst, _∙_}
 use mathlib.Core.Bool.{true, false}
 use mathlib.Core.List.{List}
+use mathlib.Core.Logic.{_⊎_, inl, inr}
 use native.Mathlib.Omega.{arith}
 use lib.Dec.{ltb}
 use borrow.Author.Tests.{le-leb, lt-leb, lt-ltb, le-ltb, ne-eqb}
@@ -14,13 +15,18 @@ use Rattle.session.specs.declared.state.Send.{Send}
 use Rattle.session.specs.declared.state.Send.the-variants.{Nothing, Heartbeat, Logout, GapFill, ResendRequest}
 use Rattle.session.specs.Held.{stateAt, isPlainCompId, leastOwn, isAhead, isHeld}
 use Rattle.session.specs.Rules.{isBadRange, fillEnd, slots, request, ask, higher, testRequest, resendRequest, equal, numbered, live, forUs, ruledIn, ruled}
-use Rattle.session.specs.State.{last, told, leave, stop, take}
+use Rattle.session.specs.Day.{ownNumberIn, ownNumber}
+use Rattle.session.specs.State.{last, codeNumber, told, leave, stop, take}
+use Rattle.line.specs.Line.{isInterval, later, isLive, isHeldLine}
+use Rattle.line.specs.Tick.{mostTime, wait, reached, dueBy, dueLive, dueAt, idOf, ownAct, numbered as sent, tickBy, tick}
 use Rattle.capi.proofs.GivenLaws.{Given, nothing, heartbeat, logout, gap-fill, resend-request}
+use Rattle.capi.specs.declared.shape.CLine.{CLine}
 use Rattle.capi.specs.declared.shape.CSend.{CSend}
 use Rattle.capi.specs.declared.shape.CSession.{CSession}
-use Rattle.capi.specs.Arising.{Arises}
-use Rattle.capi.specs.Sessions.{sessionIn, isSession, isSend, shownSend}
-use Rattle.capi.proofs.GivenSends.{Shows, shows, passes-shows}
+use Rattle.capi.specs.Arising.{Arises, ArisesByTick}
+use Rattle.capi.specs.Lines.{isLine, actSend, shownTicked, tickC}
+use Rattle.capi.specs.Sessions.{sessionIn, isSession, toSend, sendTestRequest, sendBareHeartbeat, isSend, shownSend}
+use Rattle.capi.proofs.GivenSends.{Shows, shows, tests, beats, passes-shows}
 
 -- a message for us, not sent before
 abbrev says : ℕ → Content → Message
@@ -85,10 +91,31 @@ module _ (ours : List ℕ) (plain : isPlainCompId ours ≡ true) where
   given-arises (resend-request {n = n} {start = start} a b c d) w =
       arises-as start n (start + 1) content.Heartbeat (ResendRequest n start 0) c (omega arith) a (omega arith) (omega arith) (gives-request n start b)
 
+  -- a Live line that began at time 0, with an interval of a second: at one second a Heartbeat is due, and at two a Test Request
+  abbrev lineAt : ℕ → CLine
+  lineAt o = record { session = liveAt 1 o; interval = 1; tested = 0; now = 0; sent = 0; heard = 0 }
+
+  line-passes : (o : ℕ) → 2 ≤ o → isLine (lineAt o) ≡ true
+  unfolding isLine isHeldLine isInterval isLive stateAt
+  line-passes o a = rw (live-passes 1 o (omega arith) a) refl
+
+  gives-test : (n : ℕ) → 2 ≤ n → n < last → tickC (lineAt n) 2000 .send ≡ toSend sendTestRequest n (idOf n) 0
+  unfolding tickC shownTicked actSend tick tickBy dueAt dueLive dueBy reached wait later sent ownAct ownNumber ownNumberIn isLive stateAt codeNumber
+  gives-test n a b = rw (line-passes n a, ne-eqb n last (λ e. omega arith)) refl
+
+  gives-beat : (n : ℕ) → 2 ≤ n → n < last → tickC (lineAt n) 1000 .send ≡ toSend sendBareHeartbeat n 0 0
+  unfolding tickC shownTicked actSend tick tickBy dueAt dueLive dueBy reached wait later sent ownAct ownNumber ownNumberIn isLive stateAt codeNumber
+  gives-beat n a b = rw (line-passes n a, ne-eqb n last (λ e. omega arith)) refl
+
+  ticks-as : (x : CSend) (n t : ℕ) → 2 ≤ n → n < last → t ≤ mostTime → x ≡ tickC (lineAt n) t .send → ArisesByTick x
+  ticks-as x n t a b c e = record { line = lineAt n; time = t; passes = line-passes n a; own = omega arith; within = c; given = e }
+
   -- every message to send of 32-bit numbers that passes
-  pub send-arises : (x : CSend) → isSend x ≡ true → x .first ≤ last → Arises x
+  pub send-arises : (x : CSend) → isSend x ≡ true → x .first ≤ last → Arises x ⊎ ArisesByTick x
   unfolding shownSend
   send-arises x i w = go (passes-shows x i)
     where
-      go : Shows x → Arises x
-      go (shows y g e) = subst Arises (sym e) (given-arises g (subst (λ (z : CSend). z .first ≤ last) e w))
+      go : Shows x → Arises x ⊎ ArisesByTick x
+      go (shows y g e) = inl (subst Arises (sym e) (given-arises g (subst (λ (z : CSend). z .first ≤ last) e w)))
+      go (tests {n = n} a b e) = inr (ticks-as x n 2000 a b (omega arith) (e ∙ sym (gives-test n a b)))
+      go (beats {n = n} a b e) = inr (ticks-as x n 1000 a b (omega arith) (e ∙ sym (gives-beat n a b)))

@@ -9,7 +9,7 @@ use native.Mathlib.Nat.{le-of-eq}
 use native.Mathlib.Omega.{arith}
 use lib.Dec.{eqb, leb, ltb}
 use lib.ListN.{length, getD, replicate, length-replicate}
-use borrow.Author.Tests.{le-leb, lt-ltb, leb-true, ltb-true, eqb-true}
+use borrow.Author.Tests.{le-leb, lt-ltb, eq-eqb, leb-true, ltb-true, eqb-true}
 use Rattle.wire.specs.declared.text.Allowed.the-variants.{Ascii}
 use Rattle.wire.specs.Number.{Bytes}
 use Rattle.wire.specs.Text.{fixedPart}
@@ -23,17 +23,18 @@ use Rattle.session.specs.declared.state.Send.the-variants.{Nothing, Heartbeat, 
 use Rattle.session.specs.Held.{isPlainCompId}
 use Rattle.session.specs.State.{last, mostId, told}
 use Rattle.calls.specs.Steps.{called}
+use Rattle.line.specs.Tick.{idOf}
 use Rattle.capi.proofs.GivenCalls.{call-gives}
 use Rattle.capi.proofs.GivenLaws.{Given, nothing, heartbeat, logout, gap-fill, resend-request, step-gives}
 use Rattle.writer.specs.declared.write.Written.the-variants.{Wrote, Refused}
 use Rattle.writer.specs.Send.{Outgoing, sendOf}
 use Rattle.writer.specs.Write.{writeLength, writeVetted, writeOf}
 use Rattle.writer.proofs.GoodLaws.{WroteGood, wrote-good}
-use Rattle.writer.proofs.SizeLaws.{heartbeat-for-written, logout-written, gap-fill-written, resend-request-written}
+use Rattle.writer.proofs.SizeLaws.{heartbeat-written, heartbeat-for-written, test-request-written, logout-written, gap-fill-written, resend-request-written}
 use Rattle.capi.specs.declared.shape.CSend.{CSend}
 use Rattle.capi.specs.declared.shape.CSession.{CSession}
 use Rattle.capi.specs.declared.shape.CWritten.{CWritten}
-use Rattle.capi.specs.Sessions.{sessionIn, isSession, toSend, shownSend, shownStepped, stepC, isOurNumber, isSend, outgoingOf, sendBy, sendC}
+use Rattle.capi.specs.Sessions.{sessionIn, isSession, toSend, shownSend, shownStepped, stepC, isOurNumber, sendTestRequest, sendBareHeartbeat, isSend, outgoingOf, sendBy, sendC}
 use Rattle.capi.specs.Sizes.{sendSize, byRoom}
 use Rattle.capi.specs.Writing.{wrote, shownWritten}
 use Rattle.capi.proofs.SessionLaws.{checked, standing-in, step-passes}
@@ -47,9 +48,11 @@ given-passes (logout {n = n} a b) = rw (le-leb 2 n a, lt-ltb n last b)
 given-passes (gap-fill {first = first} {new = new} a b) = rw (le-leb 1 first a, lt-ltb first new b)
 given-passes (resend-request {n = n} {start = start} a b c d) = rw (le-leb 2 n a, lt-ltb n last b, le-leb 1 start c, lt-ltb start last d)
 
--- and what passes is shown of one that can be given
+-- and what passes is shown of one that a step can give, or is one of the two that a tick gives
 pub data Shows (x : CSend) : Type 0 where
   shows : (y : Send) → Given y → x ≡ shownSend y → Shows x
+  tests : {n : ℕ} → 2 ≤ n → n < last → x ≡ toSend sendTestRequest n (idOf n) 0 → Shows x
+  beats : {n : ℕ} → 2 ≤ n → n < last → x ≡ toSend sendBareHeartbeat n 0 0 → Shows x
 
 module _ (x : CSend) where
   same : (kind n first second : ℕ) → x .kind ≡ kind → x .number ≡ n → x .first ≡ first → x .second ≡ second → x ≡ toSend kind n first second
@@ -93,7 +96,29 @@ module _ (x : CSend) where
       shows (ResendRequest (x .number) (x .first) 0)
       (resend-request (n .0) (n .1) (leb-true 1 (x .first) (r .0)) (ltb-true (x .first) last (r .1)))
       (same 4 (x .number) (x .first) 0 (eqb-true (x .kind) 4 k) refl refl (eqb-true (x .second) 0 (p .1))))
-      (λ z h. absurd (true≢false (sym h)))))))
+      (λ z. either P (eqb (x .kind) 5)
+      (λ k h. let p = and-true _ (eqb (x .second) 0) h in
+      let q = and-true (isOurNumber (x .number)) (eqb (x .first) (idOf (x .number))) (p .0) in
+      let n = ours (q .0) in
+      tests (n .0) (n .1)
+      (same 5 (x .number) (idOf (x .number)) 0 (eqb-true (x .kind) 5 k) refl (eqb-true (x .first) (idOf (x .number)) (q .1)) (eqb-true (x .second) 0 (p .1))))
+      (λ z. either P (eqb (x .kind) 6)
+      (λ k h. let p = and-true _ (eqb (x .second) 0) h in
+      let q = and-true (isOurNumber (x .number)) (eqb (x .first) 0) (p .0) in
+      let n = ours (q .0) in
+      beats (n .0) (n .1)
+      (same 6 (x .number) 0 0 (eqb-true (x .kind) 6 k) refl (eqb-true (x .first) 0 (q .1)) (eqb-true (x .second) 0 (p .1))))
+      (λ z h. absurd (true≢false (sym h)))))))))
+
+-- a Test Request and a Heartbeat without ID that bear a number of ours pass
+module _ (n : ℕ) (a : 2 ≤ n) (b : n < last) where
+  pub test-passes : isSend (toSend sendTestRequest n (idOf n) 0) ≡ true
+  unfolding isSend isOurNumber
+  test-passes = rw (le-leb 2 n a, lt-ltb n last b, eq-eqb (idOf n) (idOf n) refl)
+
+  pub beat-passes : isSend (toSend sendBareHeartbeat n 0 0) ≡ true
+  unfolding isSend isOurNumber
+  beat-passes = rw (le-leb 2 n a, lt-ltb n last b)
 
 -- every message to send that a step gives passes, and each of a call of many
 module _ (c : CSession) (h : isSession c ≡ true) (l : c .own ≤ last) (s : List ℕ) (bytes : Bytes s) where
@@ -149,7 +174,9 @@ size-within kind =
     let P : ℕ → Type 0 = λ n. n ≤ 66 in
     either P (eqb kind 0) (λ t. omega arith)
     (λ t. either P (eqb kind 1) (λ u. omega arith)
-    (λ u. either P (eqb kind 2) (λ v. omega arith) (λ v. either P (eqb kind 3) (λ w. omega arith) (λ w. omega arith))))
+    (λ u. either P (eqb kind 2) (λ v. omega arith)
+    (λ v. either P (eqb kind 3) (λ w. omega arith)
+    (λ w. either P (eqb kind 5) (λ i. omega arith) (λ i. either P (eqb kind 6) (λ j. omega arith) (λ j. omega arith))))))
 
 module _ (c : CSession) (h : isSession c ≡ true) where
   abbrev compId : List ℕ
@@ -176,6 +203,15 @@ module _ (c : CSession) (h : isSession c ≡ true) where
   given-by-room (resend-request {n = n} {start = start} a b e f) d =
       sent-as (toSend 4 n start 0) (given-passes (resend-request a b e f)) refl 66 (λ z. resend-request-written n (omega arith) compId (comp-id-good c h) z start 0) d
 
+  test-by-room : (n : ℕ) → 2 ≤ n → n < last → (d : List ℕ) → sendC c (toSend sendTestRequest n (idOf n) 0) d ≡ byRoom (sendSize sendTestRequest) (length d)
+  unfolding outgoingOf sendSize
+  test-by-room n a b d =
+      sent-as (toSend 5 n (idOf n) 0) (test-passes n a b) refl 60 (λ z. test-request-written n (omega arith) compId (comp-id-good c h) z (idOf n)) d
+
+  beat-by-room : (n : ℕ) → 2 ≤ n → n < last → (d : List ℕ) → sendC c (toSend sendBareHeartbeat n 0 0) d ≡ byRoom (sendSize sendBareHeartbeat) (length d)
+  unfolding outgoingOf sendSize
+  beat-by-room n a b d = sent-as (toSend 6 n 0 0) (beat-passes n a b) refl 58 (λ z. heartbeat-written n (omega arith) compId (comp-id-good c h) z) d
+
   -- what passes is laid down in a buffer that has its length, and else refused with 11
   module _ (x : CSend) (i : isSend x ≡ true) (d : List ℕ) where
     pub send-by-room : sendC c x d ≡ byRoom (sendSize (x .kind)) (length d)
@@ -183,6 +219,8 @@ module _ (c : CSession) (h : isSession c ≡ true) where
       where
         go : Shows x → sendC c x d ≡ byRoom (sendSize (x .kind)) (length d)
         go (shows y g e) = subst (λ (z : CSend). sendC c z d ≡ byRoom (sendSize (z .kind)) (length d)) (sym e) (given-by-room g d)
+        go (tests {n = n} a b e) = subst (λ (z : CSend). sendC c z d ≡ byRoom (sendSize (z .kind)) (length d)) (sym e) (test-by-room n a b d)
+        go (beats {n = n} a b e) = subst (λ (z : CSend). sendC c z d ≡ byRoom (sendSize (z .kind)) (length d)) (sym e) (beat-by-room n a b d)
 
     pub send-laid : (sendC c x d .refusal ≡ 0) ⊎ (sendC c x d .refusal ≡ 11)
     send-laid =

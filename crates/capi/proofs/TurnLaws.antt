@@ -1,4 +1,4 @@
--- A Live session's step, as C sees it: what was read decides, and business in its turn is taken.
+-- A Live session's step and a Live line's, as C sees them: what was read decides, and business in its turn is taken.
 use mathlib.Core.Path.{_≡_, ap, ap₂, _∙_}
 use mathlib.Core.List.{List}
 use Prim.Native.Nat.{ℕ, _<_}
@@ -12,6 +12,9 @@ use Rattle.session.specs.Day.{stepBy, step}
 use Rattle.session.specs.State.{last}
 use Rattle.session.specs.Turn.{takeDue}
 use Rattle.session.proofs.TurnLaws.{Took, is-due, due-step}
+use Rattle.line.specs.declared.line.Line.{Line}
+use Rattle.line.specs.declared.line.LineStepped.{LineStepped}
+use Rattle.line.specs.Line.{steppedLine, stepLine}
 use Rattle.capi.specs.declared.shape.CSession.{CSession}
 use Rattle.capi.specs.Sessions.{sessionIn, usedBy}
 
@@ -31,3 +34,8 @@ module _ (c : CSession) (s : List ℕ) (read : Reading) (r : read ≡ readOf s) 
   pub live-ruled : (t : Session) (x : Stepped) → t ≡ sessionIn c → x ≡ stepBy t s read → x ≡ step (sessionIn c) s
   unfolding step
   live-ruled t x p u = u ∙ ap₂ (λ (y : Session) (z : Reading). stepBy y s z) p r
+
+pub line-ruled : (l : Line) (t : ℕ) (s : List ℕ) (read : Reading) (x : LineStepped) → read ≡ readOf s
+    → x ≡ steppedLine l t (stepBy (l .session) s read) → x ≡ stepLine l t s
+unfolding stepLine step
+line-ruled l t s read x r u = u ∙ ap (λ (z : Reading). steppedLine l t (stepBy (l .session) s z)) r

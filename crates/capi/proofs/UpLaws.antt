@@ -1,4 +1,4 @@
--- How a session stands, all day: every step, Connect and Drop keeps it so, and a day begins so.
+-- How a session stands, all day: every step, Connect, Drop and number of ours keeps it so, and a day begins so.
 use Prim.Native.Nat.{ℕ, _+_, _≤_}
 use mathlib.Core.Path.{_≡_, refl, sym, subst}
 use mathlib.Core.List.{List}
@@ -21,9 +21,9 @@ use Rattle.session.specs.declared.state.State.{State}
 use Rattle.session.specs.declared.state.State.the-variants.{Down, Waiting, Live}
 use Rattle.session.specs.declared.state.Session.{Session}
 use Rattle.session.specs.State.{last, leastAsked, repeatsAt, moved}
-use Rattle.session.specs.Day.{notMade, day, fresh, saved, notConnected, connectIn, connect, drop, step}
+use Rattle.session.specs.Day.{notMade, day, fresh, saved, notConnected, connectIn, connect, drop, notOwned, ownNumberIn, ownNumber, step}
 use Rattle.session.proofs.Effect.{none-ahead, repeats-none, Asks, as-before, anew}
-use Rattle.session.specs.Course.{Follows, stepped, connected, dropped, Reached, begun, resumed, on, Standing}
+use Rattle.session.specs.Course.{Follows, stepped, connected, dropped, numbered, Reached, begun, resumed, on, Standing}
 use Rattle.session.proofs.SessionLaws.{follows-kept, expected-rises, own-rises, down-nothing}
 
 -- a session that has asked for nothing
@@ -69,12 +69,17 @@ down-dropped : (s : Session) → Standing s → Standing (drop s)
 unfolding drop repeatsAt
 down-dropped s h = down-standing (s .ours) (s .expected) (s .own) (h .expected) (h .own)
 
+down-numbered : (s : Session) → s .state ≡ Down → Standing s → Standing (ownNumber s .session)
+unfolding ownNumber ownNumberIn notOwned
+down-numbered s d h = subst (λ (p : State). Standing (ownNumberIn p s .session)) (sym d) h
+
 down-follows : {s t : Session} → Follows s t → s .state ≡ Down → Standing s → Standing t
 down-follows {s = s} (stepped b) d h = down-stepped s b d h
 down-follows {s = s} (connected password) d h = down-connected s password d h
 down-follows {s = s} dropped d h = down-dropped s h
+down-follows {s = s} numbered d h = down-numbered s d h
 
--- a step, Connect and Drop keep it
+-- a step, Connect, Drop and a number of ours keep it
 pub standing-kept : {s t : Session} → Follows s t → Standing s → Standing t
 standing-kept {s = s} {t = t} f h = go (s .state) refl
   where

@@ -9,6 +9,7 @@ use Rattle.message.specs.declared.refusal.Refusal.the-variants.{NoRoom}
 use Rattle.message.specs.Refusal.{numberOf}
 use Rattle.session.specs.State.{sendNone, sendHeartbeat, sendLogout, sendGapFill}
 use Rattle.capi.specs.declared.shape.CWritten.{CWritten}
+use Rattle.capi.specs.Sessions.{sendTestRequest, sendBareHeartbeat}
 use Rattle.capi.specs.Writing.{wrote}
 
 -- a message to send, by its kind: an ID has 2 bytes, Gap Fill 1, and a number 4
@@ -17,7 +18,9 @@ sendSize kind =
     cond (eqb kind sendNone) 0 (
     cond (eqb kind sendHeartbeat) (frameBytes + 2) (
     cond (eqb kind sendLogout) frameBytes (
-    cond (eqb kind sendGapFill) (frameBytes + 1 + 4) (frameBytes + 4 + 4))))
+    cond (eqb kind sendGapFill) (frameBytes + 1 + 4) (
+    cond (eqb kind sendTestRequest) (frameBytes + 2) (
+    cond (eqb kind sendBareHeartbeat) frameBytes (frameBytes + 4 + 4))))))
 
 -- Connect's Logon: a password and a number
 abbrev pub logonSize : ℕ

@@ -12,6 +12,7 @@ use crate::write::wrote;
 use calls::Done;
 use calls::Ended;
 use calls::steps;
+use line::tick::id_of;
 use message::frame::COMP_ID_BYTES;
 use message::frame::front_length;
 use message::read::read;
@@ -40,10 +41,12 @@ use session::state::told;
 use wire::text::Allowed;
 use wire::text::fixed_part;
 use writer::send::put_gap_fill;
+use writer::send::put_heartbeat;
 use writer::send::put_heartbeat_for;
 use writer::send::put_logon;
 use writer::send::put_logout;
 use writer::send::put_resend_request;
+use writer::send::put_test_request;
 ghost use mathlib.Core.Path.{_≡_};
 ghost use Prim.Native.Nat.{_+_, _<_};
 ghost use Rattle.message.specs.Frame.{frontLength};
@@ -57,10 +60,15 @@ ghost use Rattle.session.specs.State.{last, take};
 ghost use Rattle.capi.specs.Steps.{endedIn, shownDone, TakesC};
 ghost use Rattle.capi.specs.Sessions.{shownSession, sessionIn, notASession, made, shownMade, freshC, savedC, shownConnected, connectC, dropC, toSend, shownSend, shownRow, shownStepped, notStepped, usedBy, stepC, isOurNumber, isSend, sendBy, sentBy, SendsC, LogsOnC};
 
-// No session gives such a message to send.
+// No call gives such a message to send.
 const NOT_A_SEND: u32 = 91;
 
-fn session_shown(s: Session) -> CSession
+// The kinds of messages to send that a tick gives, behind those of a session.
+pub(crate) const SEND_TEST_REQUEST: u32 = 5;
+
+pub(crate) const SEND_BARE_HEARTBEAT: u32 = 6;
+
+pub(crate) fn session_shown(s: Session) -> CSession
     ensures { λ r. ⌜ r ≡ shownSession s ⌝ }
 {
     let state = s.state();
@@ -75,7 +83,7 @@ fn session_shown(s: Session) -> CSession
 }
 
 // The session that was handed in, or 90.
-fn session_in(c: CSession) -> Made
+pub(crate) fn session_in(c: CSession) -> Made
     ensures { λ r. ⌜ r ≡ held (c .state) (c .ours) (c .expected) (c .own) (c .ahead) (c .repeats) ⌝ }
 {
     let ours = c.ours;
@@ -158,7 +166,7 @@ pub fn drop_c(c: CSession) -> CMade
     made(0, session_shown(session.drop()))
 }
 
-fn to_send(kind: u32, number: u32, first: u32, second: u32) -> CSend
+pub(crate) fn to_send(kind: u32, number: u32, first: u32, second: u32) -> CSend
     ensures { λ r. ⌜ r ≡ toSend kind number first second ⌝ }
 {
     CSend {
@@ -169,14 +177,14 @@ fn to_send(kind: u32, number: u32, first: u32, second: u32) -> CSend
     }
 }
 
-fn send_shown(x: Send) -> CSend
+pub(crate) fn send_shown(x: Send) -> CSend
     ensures { λ r. ⌜ r ≡ shownSend x ⌝ }
 {
     let t = told(x);
     to_send(t.kind, t.number, t.first, t.second)
 }
 
-fn row_shown(row: Row) -> CRow
+pub(crate) fn row_shown(row: Row) -> CRow
     ensures { λ r. ⌜ r ≡ shownRow row ⌝ }
 {
     CRow {
@@ -220,7 +228,7 @@ fn not_stepped(c: CSession, refusal: u32) -> CStepped
     }
 }
 
-fn used_by(state: u32, s: &[u8]) -> usize
+pub(crate) fn used_by(state: u32, s: &[u8]) -> usize
     ensures { λ r. ⌜ r ≡ usedBy state (now (s .entry)) ⌝ }
 {
     if state == DOWN {
@@ -290,7 +298,7 @@ pub fn step_c(c: CSession, s: &[u8]) -> CStepped
     stepped_shown(session.step(s), used_by(c.state, s))
 }
 
-fn ended_number(ended: Ended) -> u32
+pub(crate) fn ended_number(ended: Ended) -> u32
     ensures { λ r. ⌜ r ≡ endedIn ended .0 ⌝ }
 {
     match ended {
@@ -300,7 +308,7 @@ fn ended_number(ended: Ended) -> u32
     }
 }
 
-fn ended_code(ended: Ended) -> u32
+pub(crate) fn ended_code(ended: Ended) -> u32
     ensures { λ r. ⌜ r ≡ endedIn ended .1 ⌝ }
 {
     match ended {
@@ -310,7 +318,7 @@ fn ended_code(ended: Ended) -> u32
     }
 }
 
-fn ended_besides(ended: Ended) -> usize
+pub(crate) fn ended_besides(ended: Ended) -> usize
     ensures { λ r. ⌜ r ≡ endedIn ended .2 ⌝ }
 {
     match ended {
@@ -368,7 +376,7 @@ fn is_our_number(n: u32) -> bool
     (2 <= n) & (n < LAST)
 }
 
-// Whether a step can give this message to send.
+// Whether a step or a tick can give this message to send.
 fn is_send(x: CSend) -> bool
     ensures { λ r. ⌜ r ≡ isSend x ⌝ }
 {
@@ -381,11 +389,15 @@ fn is_send(x: CSend) -> bool
         SEND_RESEND_REQUEST => {
             is_our_number(x.number) & ((1 <= x.first) & (x.first < LAST)) & (x.second == 0)
         }
+        SEND_TEST_REQUEST => {
+            is_our_number(x.number) & (x.first == id_of(x.number) as u32) & (x.second == 0)
+        }
+        SEND_BARE_HEARTBEAT => is_our_number(x.number) & (x.first == 0) & (x.second == 0),
         _ => false,
     }
 }
 
-// A message to send that a step can give.
+// A message to send that a step or a tick can give.
 fn put_send(d: &mut [u8], x: CSend, comp: &[u8]) -> CWritten
     requires { ⌜ isSend x ≡ true ⌝ }
     ensures { λ r. ⌜ (r ≡ sendBy x (now (comp .entry)) (now (d .entry))) × (now (d .exit) ≡ sentBy x (now (comp .entry)) (now (d .entry))) ⌝ }
@@ -396,6 +408,8 @@ fn put_send(d: &mut [u8], x: CSend, comp: &[u8]) -> CWritten
         SEND_HEARTBEAT => { written_shown(put_heartbeat_for(d, comp, x.number, x.first as u16)) }
         SEND_LOGOUT => written_shown(put_logout(d, comp, x.number)),
         SEND_GAP_FILL => written_shown(put_gap_fill(d, comp, x.number, x.first)),
+        SEND_TEST_REQUEST => { written_shown(put_test_request(d, comp, x.number, id_of(x.number))) }
+        SEND_BARE_HEARTBEAT => written_shown(put_heartbeat(d, comp, x.number)),
         _ => written_shown(put_resend_request(d, comp, x.number, x.first, x.second)),
     }
 }

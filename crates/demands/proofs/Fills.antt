@@ -57,7 +57,7 @@ take-twice s b c v w x h l =
     with a r = record { state = Live; ours = s .ours; expected = c; own = s .own; ahead = a; repeats = r }
 
 -- a gap fill that is due, and leads forward
-fill-taken : (s : Session) (n new : ℕ) (b : List ℕ) → s .state ≡ Live → Fill (s .ours) n new b → n ≡ s .expected → n < new
+pub fill-taken : (s : Session) (n new : ℕ) (b : List ℕ) → s .state ≡ Live → Fill (s .ours) n new b → n ≡ s .expected → n < new
     → step s b ≡ take s new (s .own) send.Nothing (row.Filled n (new - 1))
 fill-taken s n new b p f e l =
     let h = f .header in

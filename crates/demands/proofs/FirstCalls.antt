@@ -39,7 +39,7 @@ counted-all L s [] l none = l
 counted-all L s (e ∷ es) l (more f fs) = counted-all L (after s e) es (event-goes L s l f .counted) fs
 
 -- one call: its steps are lent bytes
-call-goes : (L : List Content) (s : Session) {c : Call} → 1 ≤ s .expected → FairCall L c → Goes L s (afterCall s c) (handedCall s c)
+pub call-goes : (L : List Content) (s : Session) {c : Call} → 1 ≤ s .expected → FairCall L c → Goes L s (afterCall s c) (handedCall s c)
 unfolding afterCall handedCall
 call-goes L s l (fair-event f) = event-goes L s l f
 call-goes L s l (fair-many {b = b} {r = r} {q = q} f) =

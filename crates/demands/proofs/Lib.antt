@@ -16,3 +16,4 @@ pub mod WorkedReport
 pub mod Fills
 pub mod Meets
 pub mod PartsExist
+pub mod Lines

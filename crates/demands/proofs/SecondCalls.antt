@@ -9,6 +9,7 @@
 -- `TakenAtOnce s bs r q f`.
 use Prim.Native.Nat.{ℕ, zero, suc, _+_, _-_, _*_, _≤_}
 use mathlib.Core.Path.{_≡_, refl, sym, ap, _∙_, subst}
+use mathlib.Core.Bool.{true}
 use mathlib.Core.List.{List, [], _∷_, _++_}
 use native.Mathlib.Nat.{sub-zero}
 use native.Mathlib.Omega.{arith}
@@ -34,6 +35,7 @@ use Rattle.calls.specs.Steps.{
   sendsOf,
   rowNumbers,
   sendNumbers,
+  isHeard,
   Did,
   did,
   joined,
@@ -105,8 +107,8 @@ turn-on : (k at r q f n : ℕ) (s : Session) (left : List ℕ) (w : Row) → ste
     → at ≤ last → 5 ≤ r
     → let x = turns k (at + n) (r - length (rowNumbers (rowAt at n w))) q (take s f (s .own) send.Nothing w .session) (drop n left) in
     turns (suc k) at r q s left
-    ≡ record { session = x .session; used = n + x .used; rows = rowAt at n w ++ x .rows; sends = x .sends; after = x .after }
-unfolding turns follow turnOf turnBy fits stepDone nextOf andThen joined take codeNumber sendsOf sendIn told sendNumbers
+    ≡ record { session = x .session; used = n + x .used; rows = rowAt at n w ++ x .rows; sends = x .sends; heard = true; after = x .after }
+unfolding turns follow turnOf turnBy fits stepDone isHeard nextOf andThen joined take codeNumber sendsOf sendIn told sendNumbers
 turn-on k at r q f n s left w t l a h =
     let m : length (rowNumbers (rowAt at 0 w)) ≤ r = omega (arith, row-length at 0 w) in
     simp (t, l, le-leb at last a, le-leb (length (rowNumbers (rowAt at 0 w))) r m, le-leb 0 q (omega arith), sub-zero)

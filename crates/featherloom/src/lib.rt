@@ -2,14 +2,21 @@
 use capi::shape::CConnected;
 use capi::shape::CDone;
 use capi::shape::CHeader;
+use capi::shape::CLine;
+use capi::shape::CLineConnected;
+use capi::shape::CLineDone;
+use capi::shape::CLineMade;
+use capi::shape::CLineStepped;
 use capi::shape::CListed;
 use capi::shape::CMade;
+use capi::shape::CNextTick;
 use capi::shape::CPart;
 use capi::shape::CPlanned;
 use capi::shape::CReading;
 use capi::shape::CSend;
 use capi::shape::CSession;
 use capi::shape::CStepped;
+use capi::shape::CTicked;
 use capi::shape::CValue;
 use capi::shape::CWritten;
 use wire::map::MAP_BYTES;
@@ -20,6 +27,7 @@ ghost use Rattle.capi.specs.Sessions.{freshC, savedC, connectC, dropC, stepC, S
 ghost use Rattle.capi.specs.Version.{version};
 ghost use Rattle.capi.specs.Planning.{PlansC, JoinsC};
 ghost use Rattle.capi.specs.Steps.{TakesC};
+ghost use Rattle.capi.specs.Lines.{freshLineC, savedLineC, connectLineC, dropLineC, stepLineC, TakesLineC, tickC, nextTickC};
 ghost use Rattle.capi.specs.Writing.{WritesC, SpellsC};
 
 #[no_mangle]
@@ -168,6 +176,77 @@ pub extern "C" fn featherloom_put_logon(
     ensures { λ r. ⌜ LogsOnC session (now (password .entry)) (now (buffer .entry)) r (now (buffer .exit)) ⌝ }
 {
     capi::sessions::logon_c(buffer, session, password)
+}
+
+#[no_mangle]
+pub extern "C" fn featherloom_line_fresh(comp: &[u8], interval: u32) -> CLineMade
+    ensures { λ r. ⌜ r ≡ freshLineC (now (comp .entry)) interval ⌝ }
+{
+    capi::lines::line_fresh_c(comp, interval)
+}
+
+#[no_mangle]
+pub extern "C" fn featherloom_line_saved(
+    comp: &[u8],
+    expected: u32,
+    own: u32,
+    interval: u32,
+) -> CLineMade
+    ensures { λ r. ⌜ r ≡ savedLineC (now (comp .entry)) expected own interval ⌝ }
+{
+    capi::lines::line_saved_c(comp, expected, own, interval)
+}
+
+#[no_mangle]
+pub extern "C" fn featherloom_line_connect(
+    line: CLine,
+    time: u64,
+    password: &[u8],
+) -> CLineConnected
+    ensures { λ r. ⌜ r ≡ connectLineC line time (now (password .entry)) ⌝ }
+{
+    capi::lines::line_connect_c(line, time, password)
+}
+
+#[no_mangle]
+pub extern "C" fn featherloom_line_drop(line: CLine, time: u64) -> CLineMade
+    ensures { λ r. ⌜ r ≡ dropLineC line time ⌝ }
+{
+    capi::lines::line_drop_c(line, time)
+}
+
+#[no_mangle]
+pub extern "C" fn featherloom_line_step(line: CLine, time: u64, bytes: &[u8]) -> CLineStepped
+    ensures { λ r. ⌜ r ≡ stepLineC line time (now (bytes .entry)) ⌝ }
+{
+    capi::lines::line_step_c(line, time, bytes)
+}
+
+#[no_mangle]
+pub extern "C" fn featherloom_line_steps_flat(
+    line: CLine,
+    time: u64,
+    bytes: &[u8],
+    rows: &mut [u32],
+    sends: &mut [u32],
+) -> CLineDone
+    ensures { λ r. ⌜ TakesLineC line time (now (bytes .entry)) (now (rows .entry)) (now (sends .entry)) r (now (rows .exit)) (now (sends .exit)) ⌝ }
+{
+    capi::lines::line_steps_c(line, time, bytes, rows, sends)
+}
+
+#[no_mangle]
+pub extern "C" fn featherloom_line_tick(line: CLine, time: u64) -> CTicked
+    ensures { λ r. ⌜ r ≡ tickC line time ⌝ }
+{
+    capi::lines::line_tick_c(line, time)
+}
+
+#[no_mangle]
+pub extern "C" fn featherloom_line_next_tick(line: CLine) -> CNextTick
+    ensures { λ r. ⌜ r ≡ nextTickC line ⌝ }
+{
+    capi::lines::line_next_tick_c(line)
 }
 
 #[no_mangle]

@@ -12,18 +12,19 @@ use Rattle.session.specs.declared.state.Send.the-variants as send
 use Rattle.session.specs.declared.state.Session.{Session}
 use Rattle.session.specs.declared.state.State.the-variants.{Down, Waiting}
 use Rattle.session.specs.declared.state.Stepped.{Stepped}
-use Rattle.session.specs.Day.{fresh, saved, connect, drop, step}
+use Rattle.session.specs.Day.{fresh, saved, connect, drop, ownNumber, step}
 use Rattle.session.specs.State.{last, mostRepeats, leastAsked, rowNone, sortNumber, lastOf}
 
 -- E after a row: one past its last number, which of a filled or reset row is New - 1; without a row it stays
 unfoldable pub expectedBy : ℕ → Row → ℕ
 expectedBy e r = cond (eqb (sortNumber r) rowNone) e (lastOf r + 1)
 
--- t can follow s: after a step on some bytes, after Connect with some password, after Drop
+-- t can follow s: after a step on some bytes, after Connect with some password, after Drop, after a number was used that no arrival asked for
 pub data Follows (s : Session) : Session → Type 0 where
   stepped : (b : List ℕ) → Follows s (step s b .session)
   connected : (password : List ℕ) → Follows s (connect s password .session)
   dropped : Follows s (drop s)
+  numbered : Follows s (ownNumber s .session)
 
 -- the sessions of a day that began fresh, or from an E and O of 32 bits
 pub data Reached : Session → Type 0 where

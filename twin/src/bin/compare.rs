@@ -5,6 +5,8 @@
 #[allow(dead_code)] // shared with bench, which needs less
 #[path = "../proved.rs"]
 mod proved;
+#[path = "../silence.rs"]
+mod silence;
 
 use proved::{
     Connected, Done, Header, Listed, Made, Part, Planned, Reading, Row, Send, Stepped, Value,
@@ -37,20 +39,21 @@ const ENOUGH: u32 = 10;
 // ---- Counting ----
 
 /// The categories, with their parts of a hundred of the random comparisons.
-const CATEGORIES: [(&str, u64); 17] = [
+const CATEGORIES: [(&str, u64); 18] = [
     ("short inputs", 6),
-    ("valid messages", 20),
+    ("valid messages", 19),
     ("writes, good and bad", 6),
-    ("damage", 9),
-    ("histories", 17),
+    ("damage", 8),
+    ("histories", 16),
     ("sessions that no day has", 9),
     ("plan", 4),
     ("crc32c", 1),
     ("decimals as text", 1),
-    ("many messages in one call", 12),
-    ("holes in the answer", 11),
+    ("many messages in one call", 11),
+    ("holes in the answer", 10),
     ("plans that join", 2),
     ("both ends meet", 2),
+    ("silence on the line", 5),
     ("texts, every character", 0),
     ("version", 0),
     ("daysheet", 0),
@@ -73,6 +76,8 @@ struct Tally {
     fills: [u64; FILLS.len()],
     /// How often sessions that take an answer met each of theirs.
     answers: [u64; ANSWERS.len()],
+    /// How often lines with a clock met each of theirs.
+    silence: silence::Met,
     /// How often runs of the bench met each of theirs; None where it is not run.
     sendings: Option<[u64; SENDINGS.len()]>,
     differences: u32,
@@ -92,6 +97,7 @@ impl Tally {
             cuts: [0; CUTS.len()],
             fills: [0; FILLS.len()],
             answers: [0; ANSWERS.len()],
+            silence: silence::Met::NONE,
             sendings: None,
             differences: 0,
             began: Instant::now(),
@@ -165,6 +171,7 @@ impl Tally {
         println!("plans cut in two: {}", met_of(&CUTS, &self.cuts));
         println!("two gap fills: {}", met_of(&FILLS, &self.fills));
         println!("both ends meet: {}", met_of(&ANSWERS, &self.answers));
+        self.silence.print();
         let mut counts: Vec<&[u64]> = vec![
             singles,
             many,
@@ -179,7 +186,8 @@ impl Tally {
         }
         // A run that differences have ended did not come so far.
         let is_whole = self.differences < ENOUGH;
-        let missed = is_whole && counts.iter().any(|counts| missed(counts));
+        let is_missed = self.silence.is_missed() || counts.iter().any(|counts| missed(counts));
+        let missed = is_whole && is_missed;
         if missed {
             println!("compare: a situation was never met, so nothing is said of it");
         }
@@ -1213,11 +1221,11 @@ const EDGES: [u32; 10] = [
     LAST,
 ];
 
-/// A message to send that some session gives.
+/// A message to send that a step or a tick gives.
 fn some_send(rng: &mut Rng) -> session::Send {
     let number = rng.any_u32().clamp(2, LAST - 1);
     let start = rng.any_u32().clamp(1, LAST - 1);
-    match rng.below(5) {
+    match rng.below(7) {
         0 => session::Send::None,
         1 => session::Send::Heartbeat {
             number,
@@ -1228,25 +1236,31 @@ fn some_send(rng: &mut Rng) -> session::Send {
             first: start,
             new: rng.any_u32().max(start + 1),
         },
-        _ => session::Send::ResendRequest {
+        4 => session::Send::ResendRequest {
             number,
             start,
             end: 0,
         },
+        5 => session::Send::TestRequest {
+            number,
+            id: session::test_request_id(number),
+        },
+        _ => session::Send::BareHeartbeat { number },
     }
 }
 
 /// A message to send, in half of the cases with one member made another, so that
-/// no session may give it.
+/// no call may give it.
 fn any_send(rng: &mut Rng) -> Send {
     let mut send = shown_send(some_send(rng));
     if rng.chance(50) {
-        let other = match rng.below(4) {
+        let other = match rng.below(5) {
             0 => send
                 .number
                 .wrapping_add(rng.below(3) as u32)
                 .wrapping_sub(1),
             1 => rng.any_u32(),
+            2 => send.first ^ 1 << rng.below(32),
             _ => EDGES[rng.index(EDGES.len())],
         };
         match rng.below(5) {
@@ -1272,6 +1286,27 @@ fn every_edge(tally: &mut Tally) {
         }
     }
 }
+
+/// Test Requests with every number at an edge, and at one where the ID begins anew,
+/// with their ID, those beside it, and numbers with the ID in their low half.
+fn every_test_request(tally: &mut Tally) {
+    let begins_anew = [131_071, 131_072, 131_073, 1 << 31];
+    for number in EDGES.into_iter().chain(begins_anew) {
+        let id = u32::from(session::test_request_id(number));
+        let others = [number, id + 65_536, id | 1 << 31];
+        for first in others.into_iter().chain([id.wrapping_sub(1), id, id + 1]) {
+            for kind in [HEARTBEAT_WITH_ID, TEST_REQUEST, BARE_HEARTBEAT] {
+                hold_everywhere(tally, send_struct([kind, number, first, 0]));
+            }
+        }
+    }
+}
+
+/// What the C interface calls the messages to send that a tick gives, and the one
+/// that is most like them.
+const HEARTBEAT_WITH_ID: u32 = 1;
+const TEST_REQUEST: u32 = 5;
+const BARE_HEARTBEAT: u32 = 6;
 
 /// A message to send under a session of each state and under what is none, with
 /// just enough room and with one byte less.
@@ -1372,6 +1407,7 @@ fn every_count(tally: &mut Tally, rng: &mut Rng) {
 
 fn odd_sessions(tally: &mut Tally, rng: &mut Rng, until: u64) {
     every_edge(tally);
+    every_test_request(tally);
     every_logon(tally);
     every_count(tally, rng);
     let until = tally.count() + until;
@@ -3689,7 +3725,7 @@ struct Options {
 fn options() -> Options {
     let mut options = Options {
         seed: 1,
-        count: 2_600_000,
+        count: 2_800_000,
         sheets: 240,
         daysheet: None,
         sendings: 200,
@@ -3745,6 +3781,7 @@ fn main() {
         holes,
         joins,
         ends_meet,
+        silence::silence,
         texts,
         versions,
     ];

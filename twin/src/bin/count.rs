@@ -20,6 +20,9 @@ use twin::wire::{Refusal, MOST};
 
 const REPORTS: usize = 100;
 
+/// A line's interval, in seconds.
+const INTERVAL: u32 = 30;
+
 /// What is summed of a Test Request, of a report, of the longest message, and
 /// far more.
 const SUMMED: [usize; 4] = [56, 274, 4_092, 65_536];
@@ -65,12 +68,16 @@ fn read(reports: &[Vec<u8>]) -> Counts {
 
 /// A session a side that has taken the gateway's Logon and expects number 2.
 fn live() -> (proved::Session, plain::Session) {
-    let logon = reports::logon();
     let waiting = proved::connect(proved::fresh(US).session, b"").session;
+    let live = proved::step(waiting, &reports::logon()).session;
+    (live, live_plain())
+}
+
+fn live_plain() -> plain::Session {
     let mut plain = plain::Session::fresh(US).expect("a good Comp ID");
     plain.connect(b"").expect("a fresh day connects");
-    plain.step(&logon);
-    (proved::step(waiting, &logon).session, plain)
+    plain.step(&reports::logon());
+    plain
 }
 
 /// E, O, M and the repeats of a session.
@@ -96,6 +103,64 @@ fn step(reports: &[Vec<u8>]) -> Counts {
         assert_eq!((told.code, row.sort as u32, row.first, row.last), business);
         assert_eq!((told.sends, told.besides), ([Send::None; 2], 0));
         assert_eq!(numbers(a), (b.e, b.o, b.m, b.repeats));
+    }
+    counts
+}
+
+/// A line that has taken the gateway's Logon, at time 0, and the plain side's
+/// session, which has no clock.
+fn live_line() -> (proved::Line, plain::Session) {
+    let fresh = proved::line_fresh(US, INTERVAL).line;
+    let waiting = proved::line_connect(fresh, 0, b"").line;
+    let live = proved::line_step(waiting, 0, &reports::logon()).line;
+    (live, live_plain())
+}
+
+/// A Live line takes the reports in turn, a millisecond apart, beside the plain
+/// side's session.
+fn line_step(reports: &[Vec<u8>]) -> Counts {
+    let (mut a, mut b) = live_line();
+    let mut counts = Counts::default();
+    for (bytes, number) in reports.iter().zip(2..) {
+        let mut bytes = bytes.clone();
+        reports::renumber(&mut bytes, number);
+        let time = u64::from(number);
+        let (said, told) = counts.add(|| proved::line_step(a, time, &bytes), || b.step(&bytes));
+        a = said.line;
+        assert_eq!(
+            (said.refusal, said.row.kind, said.row.first),
+            (0, 1, number)
+        );
+        assert_eq!((told.code, told.row.first), (0, number));
+        assert_eq!(numbers(a.session), (b.e, b.o, b.m, b.repeats));
+        assert_eq!((a.now, a.heard, a.sent), (time, time, 0));
+    }
+    counts
+}
+
+/// A Live line takes the reports in slices, one call each, beside the plain
+/// side's session.
+fn line_many(reports: &[Vec<u8>]) -> Counts {
+    let (mut a, mut b) = live_line();
+    let mut counts = Counts::default();
+    let mut next = a.session.expected;
+    for (slice, time) in reports.chunks_exact(SLICE).zip(1..) {
+        let mut bytes = slice.concat();
+        next = reports::renumber_each(&mut bytes, next);
+        let (mut rows, mut sends) = ([0; SLICE_ROWS], [0; SLICE_SENDS]);
+        let (mut other_rows, mut other_sends) = (rows, sends);
+        let (said, told) = counts.add(
+            || proved::line_steps(a, time, &bytes, &mut rows, &mut sends),
+            || b.steps(&bytes, &mut other_rows, &mut other_sends),
+        );
+        a = said.line;
+        assert_eq!(
+            said,
+            proved::LineDone::of(a, proved::Done::of(a.session, told))
+        );
+        assert_eq!(told, taken_whole(&bytes));
+        assert_eq!((rows, sends), (other_rows, other_sends));
+        assert_eq!((a.session.expected, a.heard), (next, time));
     }
     counts
 }
@@ -252,6 +317,8 @@ fn count() {
     tell("read", read, REPORTS);
     tell("step", step(&reports), REPORTS);
     tell("steps", many(&reports), REPORTS / SLICE * SLICE);
+    tell("line step", line_step(&reports), REPORTS);
+    tell("line steps", line_many(&reports), REPORTS / SLICE * SLICE);
     let fields = fields(&reports);
     tell("fields", fields, REPORTS);
     tell("questions", questions(&reports), REPORTS);

@@ -12,11 +12,11 @@ use Rattle.calls.proofs.run.Statement.{statement}
 use Rattle.calls.proofs.run.Tie as tie
 
 abbrev Inv-loop : tie.InvT-loop
-Inv-loop s rows₀ sends₀ session₀ used₀ row-at₀ send-at₀ rows sends session used row-at send-at =
-    Going session₀ s rows₀ sends₀ rows sends session used row-at send-at
+Inv-loop s rows₀ sends₀ session₀ used₀ row-at₀ send-at₀ heard₀ rows sends session used row-at send-at heard =
+    Going session₀ s rows₀ sends₀ rows sends session used row-at send-at heard
 
 abbrev μ-loop : tie.MeasureT-loop
-μ-loop s rows₀ sends₀ session₀ used₀ row-at₀ send-at₀ rows sends session used row-at send-at = length s - used
+μ-loop s rows₀ sends₀ session₀ used₀ row-at₀ send-at₀ heard₀ rows sends session used row-at send-at heard = length s - used
 
 loop-holds : tie.Need-loop-holds Inv-loop μ-loop
 loop-holds c = let z = c .before .before .before in going-start (z .args .start) (z .args .s .now) (z .args .rows .now) (z .args .sends .now) (z .pre)
@@ -161,7 +161,7 @@ enum-told c = search needs
 
 loop-less-2 : tie.Need-loop-less-2 Inv-loop μ-loop
 loop-less-2 c =
-    let k = c .before .before .before .before .before .before .before .before .before .before in
+    let k = c .before .before .before .before .before .before .before .before .before .before .before in
     let l = k .before .before .before .before .before .before .before in
     let z = l .before .before .before .before in
     let b = turn-bounds (l .loop .inv) _ (rest-of (z .args .s .now) (l .loop .used)) (k .turn .result) (k .turn .last .1 .1 .1 .1 .0) (k .turn .last .1 .1 .1 .1 .1 .0) (k .turn .ensures .0) (k .turn .ensures .1) (k .turn .ensures .2) in
@@ -170,7 +170,7 @@ loop-less-2 c =
 
 loop-again-2 : tie.Need-loop-again-2 Inv-loop μ-loop
 loop-again-2 c =
-    let k = c .before .before .before .before .before .before .before .before .before .before in
+    let k = c .before .before .before .before .before .before .before .before .before .before .before in
     let l = k .before .before .before .before .before .before .before in
     let z = l .before .before .before .before in
     let g = going-next (l .loop .inv) _ (rest-of (z .args .s .now) (l .loop .used)) (k .turn .result) (k .turn .last .1 .1 .1 .1 .0) (k .turn .last .1 .1 .1 .1 .1 .0) (k .turn .ensures .0) (k .turn .ensures .1) (k .turn .ensures .2) (c .enum-told .given .1) in
@@ -184,21 +184,21 @@ report-requires c κs = search needs
 
 same-length : tie.Need-same-length Inv-loop μ-loop
 same-length c =
-    let k = c .before .before .before .before .before .before .before .before .before .before .before .before in
+    let k = c .before .before .before .before .before .before .before .before .before .before .before .before .before in
     let l = k .before .before .before .before .before .before .before in
     let z = l .before .before .before .before in
     turn-same (l .loop .inv) _ (rest-of (z .args .s .now) (l .loop .used)) (k .turn .result) (k .turn .last .1 .1 .1 .1 .0) (k .turn .last .1 .1 .1 .1 .1 .0) (k .turn .ensures .0) (k .turn .ensures .1) (k .turn .ensures .2) .0
 
 same-length-2 : tie.Need-same-length-2 Inv-loop μ-loop
 same-length-2 c =
-    let k = c .before .before .before .before .before .before .before .before .before .before .before .before in
+    let k = c .before .before .before .before .before .before .before .before .before .before .before .before .before in
     let l = k .before .before .before .before .before .before .before in
     let z = l .before .before .before .before in
     turn-same (l .loop .inv) _ (rest-of (z .args .s .now) (l .loop .used)) (k .turn .result) (k .turn .last .1 .1 .1 .1 .0) (k .turn .last .1 .1 .1 .1 .1 .0) (k .turn .ensures .0) (k .turn .ensures .1) (k .turn .ensures .2) .1
 
 returns : tie.Need-returns Inv-loop μ-loop
 returns c =
-    let k = c .before .before .before .before .before .before .before .before .before .before .before .before in
+    let k = c .before .before .before .before .before .before .before .before .before .before .before .before .before in
     let l = k .before .before .before .before .before .before .before in
     let z = l .before .before .before .before in
     let g = going-last (l .loop .inv) _ (rest-of (z .args .s .now) (l .loop .used)) (k .turn .result) (k .turn .last .1 .1 .1 .1 .0) (k .turn .last .1 .1 .1 .1 .1 .0) (k .turn .ensures .0) (k .turn .ensures .1) (k .turn .ensures .2) _ (c .before .before .next .given .1) (c .report .result) (c .report .ensures) in

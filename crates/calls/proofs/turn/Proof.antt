@@ -93,6 +93,9 @@ put-sends-requires c κs =
     let i = fits-true (a .args .at) r q (n .step-by .result .answer) (sym (f .is-fitting .ensures) ∙ not-false _ (p .before .if2 .left)) in
     i .sends
 
+is-heard-requires : tie.Need-is-heard-requires
+is-heard-requires c κs = search needs
+
 state-requires : tie.Need-state-requires
 state-requires c κs = search needs
 
@@ -107,7 +110,7 @@ same-length-2 c = search needs
 
 returns-3 : tie.Need-returns-3
 returns-3 c =
-    let m = c .before .before .before .before in
+    let m = c .before .before .before .before .before in
     let w = m .before .before .before .before in
     let p = w .before .before in
     let f = p .before .before in
@@ -121,7 +124,7 @@ returns-3 c =
     let l : codeNumber (step (a .args .session) s .answer .code) ≡ 1 → ⊥ = λ o. f .before .if1 .left (f .before .before .number .ensures ∙ ap (λ (x : Stepped). codeNumber (x .answer .code)) e ∙ o) in
     let j = subst (λ (x : Stepped). Fits (a .args .at) r q (x .answer)) e i in
     let u = done-turn (a .args .at) r q (a .args .session) s l j ∙ ap (stepDone (a .args .at) s) (sym e) in
-    let t = turns-done _ (a .args .at) (p .used-by .result) _ _ s (n .step-by .result) _ _ _ _ _ u (p .used-by .ensures .0) (w .put-row .ensures .0) (w .put-row .ensures .1) (m .put-sends .ensures .0) (m .put-sends .ensures .1) (c .next-of .ensures ∙ ap (λ (x : State). nextOf x (n .step-by .result .answer .code)) (c .before .state .ensures)) in
+    let t = turns-done _ (a .args .at) (p .used-by .result) _ _ s (n .step-by .result) _ _ _ _ _ _ u (p .used-by .ensures .0) (w .put-row .ensures .0) (w .put-row .ensures .1) (m .put-sends .ensures .0) (m .put-sends .ensures .1) (c .before .before .is-heard .ensures) (c .next-of .ensures ∙ ap (λ (x : State). nextOf x (n .step-by .result .answer .code)) (c .before .state .ensures)) in
     (t .answer, t .rows, t .sends)
 
 pub turn-spec : {M : Type 1} → statement M
@@ -139,6 +142,7 @@ turn-spec =
     used-by-requires
     put-row-requires
     put-sends-requires
+    is-heard-requires
     state-requires
     next-of-requires
     same-length

@@ -34,11 +34,26 @@ put-gap-fill-requires c κs = search needs
 written-shown-requires-3 : tie.Need-written-shown-requires-3
 written-shown-requires-3 c κs = search needs
 
-put-resend-request-requires : tie.Need-put-resend-request-requires
-put-resend-request-requires c κs = search needs
+id-of-requires : tie.Need-id-of-requires
+id-of-requires c κs = search needs
+
+put-test-request-requires : tie.Need-put-test-request-requires
+put-test-request-requires c κs = search needs
 
 written-shown-requires-4 : tie.Need-written-shown-requires-4
 written-shown-requires-4 c κs = search needs
+
+put-heartbeat-requires : tie.Need-put-heartbeat-requires
+put-heartbeat-requires c κs = search needs
+
+written-shown-requires-5 : tie.Need-written-shown-requires-5
+written-shown-requires-5 c κs = search needs
+
+put-resend-request-requires : tie.Need-put-resend-request-requires
+put-resend-request-requires c κs = search needs
+
+written-shown-requires-6 : tie.Need-written-shown-requires-6
+written-shown-requires-6 c κs = search needs
 
 returns : tie.Need-returns
 unfolding outgoingOf sendBy sentBy
@@ -90,9 +105,35 @@ returns-5 : tie.Need-returns-5
 unfolding outgoingOf sendBy sentBy
 returns-5 c =
     let p = c .before .before .before in
+    let i = p .before in
+    let m = i .before .before in
+    let h = m .before .before .before .pre in
+    let k = m .match .keys5 in
+    (simp (c .written-shown4 .ensures, p .put-test-request .ensures .0, i .id-of .ensures, h, k), simp (p .put-test-request .ensures .1, i .id-of .ensures, h, k))
+
+same-length-5 : tie.Need-same-length-5
+same-length-5 c = search needs
+
+returns-6 : tie.Need-returns-6
+unfolding outgoingOf sendBy sentBy
+returns-6 c =
+    let p = c .before .before .before in
     let m = p .before .before in
     let h = m .before .before .before .pre in
-    (simp (c .written-shown4 .ensures, p .put-resend-request .ensures .0, h, ne-eqb _ 0 (m .match .rest .0 .0 .0 .1), ne-eqb _ 1 (m .match .rest .0 .0 .1), ne-eqb _ 2 (m .match .rest .0 .1), ne-eqb _ 3 (m .match .rest .1)), simp (p .put-resend-request .ensures .1, h, ne-eqb _ 0 (m .match .rest .0 .0 .0 .1), ne-eqb _ 1 (m .match .rest .0 .0 .1), ne-eqb _ 2 (m .match .rest .0 .1), ne-eqb _ 3 (m .match .rest .1)))
+    let k = m .match .keys6 in
+    (simp (c .written-shown5 .ensures, p .put-heartbeat .ensures .0, h, k), simp (p .put-heartbeat .ensures .1, h, k))
+
+same-length-6 : tie.Need-same-length-6
+same-length-6 c = search needs
+
+returns-7 : tie.Need-returns-7
+unfolding outgoingOf sendBy sentBy
+returns-7 c =
+    let p = c .before .before .before in
+    let m = p .before .before in
+    let h = m .before .before .before .pre in
+    let r = m .match .rest in
+    (simp (c .written-shown6 .ensures, p .put-resend-request .ensures .0, h, ne-eqb _ 0 (r .0 .0 .0 .0 .0 .1), ne-eqb _ 1 (r .0 .0 .0 .0 .1), ne-eqb _ 2 (r .0 .0 .0 .1), ne-eqb _ 3 (r .0 .0 .1), ne-eqb _ 5 (r .0 .1), ne-eqb _ 6 (r .1)), simp (p .put-resend-request .ensures .1, h, ne-eqb _ 0 (r .0 .0 .0 .0 .0 .1), ne-eqb _ 1 (r .0 .0 .0 .0 .1), ne-eqb _ 2 (r .0 .0 .0 .1), ne-eqb _ 3 (r .0 .0 .1), ne-eqb _ 5 (r .0 .1), ne-eqb _ 6 (r .1)))
 
 pub put-send-spec : {M : Type 1} → statement M
 put-send-spec =
@@ -106,8 +147,13 @@ put-send-spec =
     written-shown-requires-2
     put-gap-fill-requires
     written-shown-requires-3
-    put-resend-request-requires
+    id-of-requires
+    put-test-request-requires
     written-shown-requires-4
+    put-heartbeat-requires
+    written-shown-requires-5
+    put-resend-request-requires
+    written-shown-requires-6
     returns
     same-length
     returns-2
@@ -116,4 +162,8 @@ put-send-spec =
     same-length-3
     returns-4
     same-length-4
-    returns-5)
+    returns-5
+    same-length-5
+    returns-6
+    same-length-6
+    returns-7)

@@ -1,0 +1,4 @@
+pub mod Line
+pub mod Turn
+pub mod Tick
+pub mod Course
