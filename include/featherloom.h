@@ -40,7 +40,7 @@ uint32_t featherloom_version(void);
 
 /*
  * Refusals. `besides` holds what is returned with them. It is 0 where nothing is said here, and where there is no refusal: only
- * featherloom_done has more to say.
+ * featherloom_done and featherloom_line_done have more to say.
  */
 enum {
     FEATHERLOOM_OK = 0,
@@ -485,15 +485,15 @@ featherloom_written featherloom_put_logon(uint8_t *buffer, size_t room, featherl
                                           size_t count);
 
 /*
- * A line with a clock (document 02, item 2): a session that is told the time at each call, so that silence is seen. It is a
- * value, as a session is, and its calls are the session's; one call more, featherloom_line_tick, acts by the time alone.
+ * A line with a clock: a session that is told the time at each call, so that silence is seen. It is a value, as a session is,
+ * and its calls are the session's; one call more, featherloom_line_tick, acts by the time alone.
  *
  * Times are milliseconds of any clock of the caller's, 64 bits wide. A time earlier than the latest given counts as that latest,
  * and every call's time counts, whatever the call answers; of a refused call nothing else does. FEATHERLOOM_NOT_A_SESSION alone
  * gives the line back as it was, its time too. Only a Live session is timed, and both waits start when Live begins.
  *
  * Every call checks the line first. One that passes: its session does; the interval is 1 to 60; `tested` is 0 or 1; `sent` and
- * `heard` are at most `now`; and the three are 0 unless the session is Live.
+ * `heard` are at most `now`; and `tested`, `sent` and `heard` are 0 unless the session is Live.
  */
 typedef struct featherloom_line {
     featherloom_session session;
@@ -547,14 +547,14 @@ typedef struct featherloom_line_done {
 
 enum {
     FEATHERLOOM_ACT_NONE = 0,
-    FEATHERLOOM_ACT_DOWN = 1, /* three intervals without hearing: the line is Down, as by featherloom_line_drop; close it */
+    FEATHERLOOM_ACT_DOWN = 1, /* three intervals without hearing: Down, as by featherloom_line_drop; close the connection */
     FEATHERLOOM_ACT_TEST_REQUEST = 2,
     FEATHERLOOM_ACT_HEARTBEAT = 3
 };
 
 /*
  * What a tick did, and the message to send: a Test Request or a Heartbeat without ID, else FEATHERLOOM_SEND_NONE. Refusal 22: one
- * of them is due while our numbers are used up; the line is Down, and nothing is sent.
+ * of them is due while our numbers are used up; the line is Down, and nothing is sent: close the connection.
  */
 typedef struct featherloom_ticked {
     uint32_t refusal;
@@ -606,8 +606,8 @@ static inline featherloom_line_done featherloom_line_steps(featherloom_line line
 featherloom_ticked featherloom_line_tick(featherloom_line line, uint64_t time);
 
 /*
- * The earliest time, not before the latest given, at which a tick would act, if nothing else is called before. None is due where
- * the line is not Live, or where it would be past 64 bits. Refusal 90.
+ * The earliest time, not before the latest given, at which a tick would act, or answer 22, if nothing else is called before. None
+ * is due where the line is not Live, or where it would be past 64 bits. Refusal 90.
  */
 featherloom_next_tick featherloom_line_next_tick(featherloom_line line);
 

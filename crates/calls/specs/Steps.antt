@@ -60,7 +60,8 @@ unfoldable pub sendNumbers : List Send → List ℕ
 sendNumbers [] = []
 sendNumbers (x ∷ xs) = told x .kind ∷ told x .number ∷ told x .first ∷ told x .second ∷ sendNumbers xs
 
--- document 02, item 2: a message counts as heard when its checksum holds: any answer but the reader's 1 to 4
+-- document 02, item 2: a message counts as heard when its checksum holds: any answer but the reader's 1 to 4 (20 makes no difference: only Live is
+-- timed)
 unfoldable pub isHeard : Code → Bool
 isHeard k = eqb (codeNumber k) 0 || ltb badSum (codeNumber k)
 

@@ -15,11 +15,11 @@ use Rattle.capi.specs.declared.shape.CLine.{CLine}
 use Rattle.capi.specs.Sessions.{sessionIn, isSession, notASession}
 use Rattle.capi.specs.Lines.{lineIn, heldIn, isLine}
 
-pub record TakenLine (c : CLine) (m : LineMade) : Type 0 where
+pub record TakenIn (c : CLine) (m : LineMade) : Type 0 where
   pub passes : isLine c ≡ true
   pub line : m .line ≡ lineIn c
 
-pub record NotTakenLine (c : CLine) (k : ℕ) : Type 0 where
+pub record NotTakenIn (c : CLine) (k : ℕ) : Type 0 where
   pub fails : isLine c ≡ false
   pub number : k ≡ notASession
 
@@ -42,18 +42,18 @@ module _ (c : CLine) (m : LineMade) (k : ℕ) (e : m ≡ heldIn c) (f : k ≡ li
   by : (b : Bool) → isLine c ≡ b → m ≡ answer c b
   by b p = e ∙ held-line c ∙ ap (answer c) p
 
-  pub taken-line : k ≡ 0 → TakenLine c m
+  pub taken-line : k ≡ 0 → TakenIn c m
   unfolding lineNumber codeNumber haltNumber notALine
   taken-line z = go (isLine c) refl
     where
-      go : (b : Bool) → isLine c ≡ b → TakenLine c m
+      go : (b : Bool) → isLine c ≡ b → TakenIn c m
       go true p = record { passes = p; line = ap (λ (x : LineMade). x .line) (by true p) }
       go false p = absurd (omega (arith, ap (λ (x : LineMade). lineNumber (x .code)) (by false p)))
 
-  pub not-taken-line : (k ≡ 0 → ⊥) → NotTakenLine c k
+  pub not-taken-line : (k ≡ 0 → ⊥) → NotTakenIn c k
   unfolding lineNumber codeNumber haltNumber notALine
   not-taken-line z = go (isLine c) refl
     where
-      go : (b : Bool) → isLine c ≡ b → NotTakenLine c k
+      go : (b : Bool) → isLine c ≡ b → NotTakenIn c k
       go true p = absurd (z (f ∙ ap (λ (x : LineMade). lineNumber (x .code)) (by true p)))
       go false p = record { fails = p; number = f ∙ ap (λ (x : LineMade). lineNumber (x .code)) (by false p) }

@@ -1,4 +1,4 @@
-// A line with a clock, by value: checked on every call, and handed back as it was where no day has such a line.
+// A line with a clock, by value: checked on every call, and handed back as it was where the check refuses it.
 use crate::sessions::SEND_BARE_HEARTBEAT;
 use crate::sessions::SEND_TEST_REQUEST;
 use crate::sessions::ended_besides;

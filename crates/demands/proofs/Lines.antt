@@ -6,13 +6,16 @@
 -- handed up the business below its E (`first-half-lines-from`).
 --
 -- The second half. Supposed: the line is Live, and the messages bs are those of the second half, `Run (l .session .ours) (l .session .expected) bs f`.
--- They are lent one after another, and among them come ticks of which none puts the line Down. That is `Among l bs hs`. Shown (`second-half-lines`): they
--- are taken whole. The line is Live afterwards and expects f, and has handed up each business message of them, once and in order. That is
--- `TakenLine l bs hs f`.
+-- They come in order, at any times: lent one at a time, or some of them back to back in a slice that one call is lent. Of such a call the same is
+-- supposed as of a session's: the bytes of each message are that message and no more, the slice is no longer than the last number, the list of rows has
+-- room for a row of each message and for one at least, and the list of messages to send for two. Among them come ticks of which none puts the line
+-- Down. That is `Among l bs hs`. Shown (`second-half-lines`): they are taken whole. The line is Live afterwards and expects f, and has handed up each
+-- business message of them, once and in order. Each single step is answered with code 0 and sends nothing, and each call sends nothing and ends where
+-- the next message is waited for; what ticks send is not spoken of. That is `TakenLine l bs hs f`.
 --
 -- Gap fills. Supposed: the line is Live and expects a; a is below b, and b below c. Shown (`fills-join-lines`): bytes that are a gap fill from a to b, and
 -- then bytes that are one from b to c, leave the same line as bytes that are one from a to c, where all come at the same time.
-use Prim.Native.Nat.{ℕ, _+_, _-_, _<_, _≤_}
+use Prim.Native.Nat.{ℕ, _-_, _<_, _≤_}
 use mathlib.Core.Path.{_≡_, refl, sym, ap, ap₂, _∙_}
 use mathlib.Core.Bool.{false, _||_}
 use mathlib.Core.List.{List, [], _∷_, _++_, append-nil, append-assoc}
@@ -28,10 +31,11 @@ use Rattle.session.specs.Course.{stepped}
 use Rattle.session.specs.Day.{fresh}
 use Rattle.session.specs.State.{codeNumber, told, take}
 use Rattle.session.proofs.SessionLaws.{ours-stays}
-use Rattle.calls.specs.Steps.{isHeard, reportOf, steps}
+use Rattle.calls.specs.Steps.{isHeard, called, reportOf, steps}
+use Rattle.calls.proofs.CallLaws.{call-keeps}
 use Rattle.line.specs.declared.line.Line.{Line}
 use Rattle.line.specs.declared.line.LineMade.{LineMade}
-use Rattle.line.specs.Course.{Happening, lends, ticks, afterLine, afterLines}
+use Rattle.line.specs.Course.{Happening, lends, many, ticks, afterLine, afterLines}
 use Rattle.line.specs.Line.{
   isInterval,
   notALine,
@@ -49,7 +53,7 @@ use Rattle.line.specs.Line.{
   stepsLine,
 }
 use Rattle.line.proofs.TickLaws.{later-again, tick-expected, tick-ours}
-use Rattle.demands.specs.Calls.{fair-many, afterCall, handedCall}
+use Rattle.demands.specs.Calls.{fair-many, afterCall, handedCall, slice}
 use Rattle.demands.specs.Content.{Content, said}
 use Rattle.demands.specs.Fill.{Fill}
 use Rattle.demands.specs.Gateway.{businessOf, below, dropped, connected, after, handed, afterAll, handedAll}
@@ -68,16 +72,23 @@ use Rattle.demands.specs.Lines.{
   Among,
   none,
   message,
+  call,
   tick as ticked,
+  QuietLine,
+  none as no-answers,
+  quiet-step,
+  quiet-call,
+  any-tick,
   TakenLine,
 }
-use Rattle.demands.specs.Run.{Run, done, business, heartbeat, gapFill, lendAll, saidAll, Taken}
+use Rattle.demands.specs.Run.{Run, done, business, heartbeat, gapFill, lendAll, saidAll, Quiet, more, Taken}
 use Rattle.demands.proofs.FairStep.{Goes, goes-still, event-goes}
 use Rattle.demands.proofs.Fills.{take-twice, fill-taken}
 use Rattle.demands.proofs.First.{fresh-expected, below-first}
 use Rattle.demands.proofs.FirstCalls.{call-goes}
 use Rattle.demands.proofs.Listed.{business-append}
 use Rattle.demands.proofs.Second.{second-half}
+use Rattle.demands.proofs.SecondCalls.{second-half-calls}
 
 -- ---- the first half
 
@@ -118,38 +129,75 @@ first-half-lines L compId interval hs f =
 
 -- ---- the second half
 
--- a run's first message is a run up to a number, and the others are one from there
-record Parted (ours : List ℕ) (e : ℕ) (b : List ℕ) (bs : List (List ℕ)) (f : ℕ) : Type 0 where
+-- a run over two lists, one after the other, is a run over the first up to a number, and one over the second from there
+record Parted (ours : List ℕ) (e : ℕ) (cs bs : List (List ℕ)) (f : ℕ) : Type 0 where
   at : ℕ
-  first : Run ours e (b ∷ []) at
+  first : Run ours e cs at
   others : Run ours at bs f
 
-part-run : {ours : List ℕ} {e f : ℕ} {b : List ℕ} {bs : List (List ℕ)} → Run ours e (b ∷ bs) f → Parted ours e b bs f
-part-run {e = e} (business r o d l c u) = record { at = e + 1; first = business r o d l c done; others = u }
-part-run {e = e} (heartbeat r o d l c u) = record { at = e + 1; first = heartbeat r o d l c done; others = u }
-part-run (gapFill {new = new} r o d l c a u) = record { at = new; first = gapFill r o d l c a done; others = u }
+part-run : {ours : List ℕ} {e f : ℕ} (cs : List (List ℕ)) {bs : List (List ℕ)} → Run ours e (cs ++ bs) f → Parted ours e cs bs f
+part-run {e = e} [] u = record { at = e; first = done; others = u }
+part-run (b ∷ cs) (business r o d l c u) =
+    let x = part-run cs u in record { at = x .at; first = business r o d l c (x .first); others = x .others }
+part-run (b ∷ cs) (heartbeat r o d l c u) =
+    let x = part-run cs u in record { at = x .at; first = heartbeat r o d l c (x .first); others = x .others }
+part-run (b ∷ cs) (gapFill r o d l c a u) =
+    let x = part-run cs u in record { at = x .at; first = gapFill r o d l c a (x .first); others = x .others }
 
--- one message taken hands up what it has of business
+run-end : {ours : List ℕ} {e f : ℕ} → Run ours e [] f → e ≡ f
+run-end done = refl
+
+-- one message taken hands up what it has of business, and is quiet
 one-handed : (l : Line) (t : ℕ) (b : List ℕ) (g : ℕ) → Taken (l .session) (b ∷ []) g → handedLine l (lends t b) ≡ businessOf (said b)
 unfolding handedLine stepLine handedAll handed lendAll saidAll
 one-handed l t b g x = sym (append-nil (handedLine l (lends t b))) ∙ x .handed ∙ ap businessOf (append-nil (said b))
 
+one-quiet : (l : Line) (t : ℕ) (b : List ℕ) (hs : List Happening) → Quiet (l .session) (b ∷ []) → QuietLine (afterLine l (lends t b)) hs
+    → QuietLine l (lends t b ∷ hs)
+unfolding stepLine
+one-quiet l t b hs (more c x y u) i = quiet-step {l = l} {t = t} {b = b} c x y i
+
+-- two lists, one after the other, have the business of the first and then that of the second
+said-append : (cs bs : List (List ℕ)) → saidAll (cs ++ bs) ≡ saidAll cs ++ saidAll bs
+unfolding saidAll
+said-append [] bs = refl
+said-append (b ∷ cs) bs = ap (λ (x : List Content). said b ++ x) (said-append cs bs) ∙ sym (append-assoc (said b) (saidAll cs) (saidAll bs))
+
+business-both : (cs bs : List (List ℕ)) → businessOf (saidAll cs) ++ businessOf (saidAll bs) ≡ businessOf (saidAll (cs ++ bs))
+business-both cs bs = sym (ap businessOf (said-append cs bs) ∙ business-append (saidAll cs) (saidAll bs))
+
+-- a call leaves our Comp ID
+call-ours : (s : Session) (b : List ℕ) (r q : ℕ) → called s b r q .session .ours ≡ s .ours
+call-ours s b r q = call-keeps (λ (x : Session). x .ours ≡ s .ours) (λ x c h. ours-stays {s = x} (stepped c) ∙ h) s b r q refl
+
 pub second-half-lines : (l : Line) (bs : List (List ℕ)) (hs : List Happening) (f : ℕ) → l .session .state ≡ Live
     → Run (l .session .ours) (l .session .expected) bs f → Among l bs hs → TakenLine l bs hs f
-unfolding afterLines handedLines saidAll businessOf afterLine afterAll stepLine lendAll movedLine after handedLine
-second-half-lines l _ _ f p done none = record { state = p; expected = refl; handed = refl }
+unfolding afterLines handedLines saidAll businessOf afterLine afterAll stepLine stepsLine steps reportOf lendAll movedLine after handedLine
+second-half-lines l _ _ f p run none = record { state = p; expected = run-end run; handed = refl; quiet = no-answers }
 second-half-lines l _ _ f p run (message {t = t} {b = b} {bs = bs} {hs = hs} a) =
-    let x = part-run run in
+    let x = part-run (b ∷ []) run in
     let y = second-half (l .session) (b ∷ []) (x .at) p (x .first) in
     let i = second-half-lines (afterLine l (lends t b)) bs hs f (y .state) (rw (ours-stays {s = l .session} (stepped b), y .expected) (x .others)) a in
     record {
       state = i .state;
       expected = i .expected;
       handed = rw (one-handed l t b (x .at) y, i .handed) (sym (business-append (said b) (saidAll bs)));
+      quiet = one-quiet l t b hs (y .quiet) (i .quiet);
+    }
+second-half-lines l _ _ f p run (call {t = t} {r = r} {q = q} {cs = cs} {bs = bs} {hs = hs} w n rows h g a) =
+    let x = part-run cs run in
+    let y = second-half-calls (l .session) cs r q (x .at) p (x .first) w n rows h g in
+    let k = afterLine l (many t (slice cs) r q) in
+    let i = second-half-lines k bs hs f (y .state) (rw (call-ours (l .session) (slice cs) r q, y .expected) (x .others)) a in
+    record {
+      state = i .state;
+      expected = i .expected;
+      handed = ap₂ _++_ (y .handed) (i .handed) ∙ business-both cs bs;
+      quiet = quiet-call {l = l} {t = t} (y .quiet) (y .ended) (i .quiet);
     }
 second-half-lines l bs _ f p run (ticked {t = t} {hs = hs} q a) =
     let i = second-half-lines (afterLine l (ticks t)) bs hs f q (rw (tick-ours l t, tick-expected l t) run) a in
-    record { state = i .state; expected = i .expected; handed = i .handed }
+    record { state = i .state; expected = i .expected; handed = i .handed; quiet = any-tick (i .quiet) }
 
 -- ---- gap fills that join
 

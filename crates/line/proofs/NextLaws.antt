@@ -12,7 +12,7 @@ use Rattle.line.specs.declared.line.Line.{Line}
 use Rattle.line.specs.declared.tick.NextTick.{NextTick}
 use Rattle.line.specs.declared.tick.NextTick.the-variants as next
 use Rattle.line.specs.Line.{later, isLive}
-use Rattle.line.specs.Tick.{wait, mostTime, atTime, earlier, notBefore, silenceDue, nextTick}
+use Rattle.line.specs.Tick.{toTestRequest, toDown, wait, mostTime, atTime, earlier, notBefore, silenceDue, nextTick}
 use Rattle.line.specs.Course.{NothingDue, Rests, NextAt}
 use Rattle.line.proofs.TickLaws.{later-least, later-given, later-within, before-later, live-state, other-state, not-due-rests, rests-not-due}
 
@@ -43,7 +43,7 @@ not-due-before : (l : Line) (n : ℕ) → n < silenceDue l → n < l .sent + wai
 unfolding silenceDue
 not-due-before l n h b = go (l .tested) refl h
   where
-    go : (x : Bool) → l .tested ≡ x → n < l .heard + cond x 3 2 * wait l → NothingDue l n
+    go : (x : Bool) → l .tested ≡ x → n < l .heard + cond x toDown toTestRequest * wait l → NothingDue l n
     go true e i = record { down = i; test = λ f. absurd (true≢false (sym e ∙ f)); beat = b }
     go false e i = record { down = omega arith; test = λ f. i; beat = b }
 
@@ -51,7 +51,7 @@ not-due-silence : (l : Line) (n : ℕ) → NothingDue l n → n < silenceDue l
 unfolding silenceDue
 not-due-silence l n q = go (l .tested) refl
   where
-    go : (x : Bool) → l .tested ≡ x → n < l .heard + cond x 3 2 * wait l
+    go : (x : Bool) → l .tested ≡ x → n < l .heard + cond x toDown toTestRequest * wait l
     go true e = q .down
     go false e = q .test e
 

@@ -1,9 +1,9 @@
--- What a tick does: at most one thing (`acted`), so that a second one at the same time does nothing; what it leaves of the session; that a line which
--- hears is never put Down; and that one which does not is Down within four intervals. With the clock left out every other call is the session's.
+-- What a tick does: at most one thing (`acted`), so that a second one at the same time does nothing; what it leaves of the session; and that a line which
+-- hears is never put Down. With the clock left out every other call is the session's.
 use Prim.Native.Nat.{ℕ, _+_, _*_, _<_, _≤_}
 use mathlib.Core.Path.{_≡_, refl, sym, ap, subst, _∙_}
 use mathlib.Core.Bool.{Bool, true, false, not, _&&_, _||_, and-true as and-so}
-use mathlib.Core.List.{List, [], _∷_}
+use mathlib.Core.List.{List}
 use mathlib.Core.Logic.{inl, inr}
 use native.Mathlib.Omega.{arith}
 use lib.Dec.{eqb, leb, ltb}
@@ -26,6 +26,8 @@ use Rattle.line.specs.declared.tick.Due.the-variants as due
 use Rattle.line.specs.declared.tick.Ticked.{Ticked}
 use Rattle.line.specs.Line.{later, isLive, goesOn, waitSince, movedLine, connectLine, dropLine, stepLine, stepsLine}
 use Rattle.line.specs.Tick.{
+  toTestRequest,
+  toDown,
   wait,
   reached,
   dueBy,
@@ -42,10 +44,6 @@ use Rattle.line.specs.Tick.{
 use Rattle.line.specs.Course.{
   Happening,
   afterLine,
-  Steady,
-  lastTime,
-  ticked,
-  DownBy,
   InTime,
   at-tick,
   PutsDown,
@@ -76,10 +74,6 @@ later-least n t = either (λ (x : ℕ). n ≤ x) (ltb t n) (λ h. omega arith) (
 pub later-given : (n t : ℕ) → t ≤ later n t
 unfolding later
 later-given n t = either (λ (x : ℕ). t ≤ x) (ltb t n) (λ h. omega (arith, ltb-true t n h)) (λ h. omega arith)
-
-pub later-from : (n t : ℕ) → n ≤ t → later n t ≡ t
-unfolding later
-later-from n t l = either (λ (x : ℕ). x ≡ t) (ltb t n) (λ h. omega (arith, ltb-true t n h)) (λ h. refl)
 
 pub later-stays : (n t : ℕ) → t ≤ n → later n t ≡ n
 unfolding later
@@ -159,9 +153,10 @@ unfolding tick tickBy dueAt dueLive dueBy reached ownAct
 acted l t =
     either P (isLive (l .session .state))
     (λ u. let e = live-state (l .session .state) u in
-    either P (leb (l .heard + 3 * wait l) n) (λ d. down e (leb-true (l .heard + 3 * wait l) n d))
-    (λ d. let f = leb-false (l .heard + 3 * wait l) n d in
-    either P (leb (l .heard + 2 * wait l) n && not (l .tested)) (λ b. test e f (and-true (leb (l .heard + 2 * wait l) n) (not (l .tested)) b))
+    either P (leb (l .heard + toDown * wait l) n) (λ d. down e (leb-true (l .heard + toDown * wait l) n d))
+    (λ d. let f = leb-false (l .heard + toDown * wait l) n d in
+    either P (leb (l .heard + toTestRequest * wait l) n && not (l .tested))
+    (λ b. test e f (and-true (leb (l .heard + toTestRequest * wait l) n) (not (l .tested)) b))
     (λ b. either P (leb (l .sent + wait l) n) (λ c. beat e f (untested b) (leb-true (l .sent + wait l) n c))
     (λ c. nothing (λ e. record { down = f; test = untested b; beat = leb-false (l .sent + wait l) n c })))))
     (λ u. nothing (λ e. absurd (other-state (l .session .state) u e)))
@@ -172,18 +167,20 @@ acted l t =
     P : Due → Type 0
     P d = Acted l t (tickBy d l t)
 
-    untested : leb (l .heard + 2 * wait l) n && not (l .tested) ≡ false → l .tested ≡ false → n < l .heard + 2 * wait l
+    untested : leb (l .heard + toTestRequest * wait l) n && not (l .tested) ≡ false → l .tested ≡ false → n < l .heard + toTestRequest * wait l
     untested b e =
-        let c : Bool = leb (l .heard + 2 * wait l) n in
-        leb-false (l .heard + 2 * wait l) n (sym (and-so c) ∙ ap (λ (x : Bool). c && not x) (sym e) ∙ b)
+        let c : Bool = leb (l .heard + toTestRequest * wait l) n in
+        leb-false (l .heard + toTestRequest * wait l) n (sym (and-so c) ∙ ap (λ (x : Bool). c && not x) (sym e) ∙ b)
 
-    test : l .session .state ≡ Live → n < l .heard + 3 * wait l → (leb (l .heard + 2 * wait l) n ≡ true) × (not (l .tested) ≡ true) → P due.TestRequest
+    test : l .session .state ≡ Live → n < l .heard + toDown * wait l
+        → (leb (l .heard + toTestRequest * wait l) n ≡ true) × (not (l .tested) ≡ true) → P due.TestRequest
     test e f b =
-        let g = leb-true (l .heard + 2 * wait l) n (b .0) in
+        let g = leb-true (l .heard + toTestRequest * wait l) n (b .0) in
         let u = not-true (l .tested) (b .1) in
         message true l t e (test-request e f g u) (no-number e f (inl (u, g)))
 
-    beat : l .session .state ≡ Live → n < l .heard + 3 * wait l → (l .tested ≡ false → n < l .heard + 2 * wait l) → l .sent + wait l ≤ n → P due.Heartbeat
+    beat : l .session .state ≡ Live → n < l .heard + toDown * wait l → (l .tested ≡ false → n < l .heard + toTestRequest * wait l)
+        → l .sent + wait l ≤ n → P due.Heartbeat
     beat e f u b = message false l t e (heartbeat e f u b) (no-number e f (inr b))
 
 -- where none of the three is due, a tick does nothing, and where it does nothing, none is due
@@ -333,7 +330,7 @@ module _ (l : Line) (t : ℕ) where
   steps-answer b r q = (refl, refl, refl, refl, refl)
 
 -- before three intervals have passed without hearing, a tick does not put the line Down
-pub never-down : (l : Line) (t : ℕ) → (l .session .state ≡ Live → later (l .now) t < l .heard + 3 * wait l) → tick l t .act ≡ act.Down → ⊥
+pub never-down : (l : Line) (t : ℕ) → (l .session .state ≡ Live → later (l .now) t < l .heard + toDown * wait l) → tick l t .act ≡ act.Down → ⊥
 never-down l t h = go (tick l t) (acted l t)
   where
     go : (x : Ticked) → Acted l t x → x .act ≡ act.Down → ⊥
@@ -352,7 +349,7 @@ hears-never-down l hs none = none
 hears-never-down l hs (more {h = h} {hs = others} i is) = more (in-time-up i) (hears-never-down (afterLine l h) others is)
 
 -- and it stays Live, while it has a number for what is due
-pub stays-live : (l : Line) (t : ℕ) → l .session .state ≡ Live → later (l .now) t < l .heard + 3 * wait l → (l .session .own ≡ last → ⊥)
+pub stays-live : (l : Line) (t : ℕ) → l .session .state ≡ Live → later (l .now) t < l .heard + toDown * wait l → (l .session .own ≡ last → ⊥)
     → tick l t .line .session .state ≡ Live
 unfolding timed
 stays-live l t s h n = go (tick l t) (acted l t)
@@ -363,51 +360,3 @@ stays-live l t s h n = go (tick l t) (acted l t)
     go x (test-request e f g u o) = sent-live true l t e o
     go x (heartbeat e f u b o) = sent-live false l t e o
     go x (no-number e f g o) = absurd (n o)
-
--- what a tick leaves of a Live line: Down, or Live with the silence going on, less than three intervals long
-data Left (l : Line) (n : ℕ) (k : Line) : Type 0 where
-  gone : k .session .state ≡ Down → Left l n k
-  silent : k .session .state ≡ Live → k .heard ≡ l .heard → k .interval ≡ l .interval → n < l .heard + 3 * wait l → Left l n k
-
-tick-left : (l : Line) (t : ℕ) → l .session .state ≡ Live → Left l (later (l .now) t) (tick l t .line)
-unfolding timed dropLine testedLine movedLine drop
-tick-left l t s = go (tick l t) (acted l t)
-  where
-    go : (x : Ticked) → Acted l t x → Left l (later (l .now) t) (x .line)
-    go x (nothing q) = silent s refl refl (q s .down)
-    go x (down e d) = gone refl
-    go x (test-request e f g u o) = silent (sent-live true l t e o) (sent-heard true l t e o) refl f
-    go x (heartbeat e f u b o) = silent (sent-live false l t e o) (sent-heard false l t e o) refl f
-    go x (no-number e f g o) = gone refl
-
--- Down after the first of these ticks, or after some of the others
-down-first : (l : Line) (t : ℕ) (ts : List ℕ) (m : ℕ) → tick l t .line .session .state ≡ Down → tick l t .line .now ≤ m → DownBy l (t ∷ ts) m
-unfolding ticked
-down-first l t ts m d w = record { first = t ∷ []; others = ts; both = refl; down = d; within = w }
-
-down-after : (l : Line) (t : ℕ) (ts : List ℕ) (m : ℕ) → DownBy (tick l t .line) ts m → DownBy l (t ∷ ts) m
-unfolding ticked
-down-after l t ts m d = record { first = t ∷ d .first; others = d .others; both = ap (λ (xs : List ℕ). t ∷ xs) (d .both); down = d .down; within = d .within }
-
--- ticks no more than an interval apart put a Live line that hears nothing Down within four intervals of when it last heard
-pub four-intervals : (l : Line) (ts : List ℕ) → l .session .state ≡ Live → l .now < l .heard + 3 * wait l → Steady (wait l) (l .now) ts
-    → l .heard + 3 * wait l ≤ lastTime (l .now) ts → DownBy l ts (l .heard + 4 * wait l)
-unfolding lastTime wait
-four-intervals l [] s h steady far = absurd (omega arith)
-four-intervals l (t ∷ ts) s h (more a b steady) far = go (tick-left l t s) (four-intervals (tick l t .line) ts)
-  where
-    k : Line
-    k = tick l t .line
-
-    now : k .now ≡ t
-    now = tick-now l t ∙ later-from (l .now) t a
-
-    go : Left l (later (l .now) t) k → (k .session .state ≡ Live → k .now < k .heard + 3 * wait k → Steady (wait k) (k .now) ts
-        → k .heard + 3 * wait k ≤ lastTime (k .now) ts → DownBy k ts (k .heard + 4 * wait k)) → DownBy l (t ∷ ts) (l .heard + 4 * wait l)
-    go (gone d) others = down-first l t ts (l .heard + 4 * wait l) d (omega (arith, now))
-    go (silent e f i g) others =
-        let w : wait k ≡ wait l = omega (arith, i) in
-        let m : k .heard + 4 * wait k ≡ l .heard + 4 * wait l = omega (arith, i, f) in
-        let x : Steady (wait k) (k .now) ts = rw (w, now) steady in
-        let far′ : k .heard + 3 * wait k ≤ lastTime (k .now) ts = rw (now, w, f) far in
-        down-after l t ts (l .heard + 4 * wait l) (subst (DownBy k ts) m (others e (omega (arith, later-from (l .now) t a, now, i, f)) x far′))

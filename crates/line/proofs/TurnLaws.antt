@@ -48,3 +48,11 @@ due-line l t left read d r e some =
       step = ap (steppedLine l t) (k .step) ∙ taken-line l t ∙ ap (λ (y : Line). dueStepped y (s .expected)) (sym m);
       size = n ∙ k .size;
     }
+
+-- so a step takes it, and does nothing else
+pub due-line-is-step : (l : Line) (t : ℕ) (left : List ℕ) → (takeDueLine l t left (readOf left) .length ≡ 0 → ⊥)
+    → (stepLine l t left ≡ dueStepped (takeDueLine l t left (readOf left) .line) (l .session .expected))
+    × (takeDueLine l t left (readOf left) .length ≡ frontLength left)
+due-line-is-step l t left some =
+    let k = due-line l t left (readOf left) (takeDueLine l t left (readOf left)) refl refl some in
+    (k .step, k .size)

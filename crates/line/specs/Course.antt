@@ -16,7 +16,7 @@ use Rattle.line.specs.declared.line.Line.{Line}
 use Rattle.line.specs.declared.tick.Act.the-variants as act
 use Rattle.line.specs.declared.tick.Ticked.{Ticked}
 use Rattle.line.specs.Line.{isInterval, freshLine, savedLine, later, isLive, movedLine, connectLine, dropLine, stepLine, stepsLine}
-use Rattle.line.specs.Tick.{wait, timed, testedLine, says, idOf, tick, mostTime}
+use Rattle.line.specs.Tick.{toTestRequest, toDown, wait, timed, testedLine, says, idOf, tick, mostTime}
 
 -- what can happen to a line, each at a time: Connect with a password, the line drops, a step is lent bytes, a call of many messages with lists of so
 -- many numbers, a tick
@@ -63,8 +63,8 @@ Rests l t = tick l t ≡ says (timed l t) Good act.Nothing
 
 -- of a Live line: none of the three is due at the time n
 pub record NothingDue (l : Line) (n : ℕ) : Type 0 where
-  pub down : n < l .heard + 3 * wait l
-  pub test : l .tested ≡ false → n < l .heard + 2 * wait l
+  pub down : n < l .heard + toDown * wait l
+  pub test : l .tested ≡ false → n < l .heard + toTestRequest * wait l
   pub beat : n < l .sent + wait l
 
 -- the line after a message with a number of ours
@@ -75,15 +75,15 @@ sentLine test l t = testedLine test (movedLine l t (day.ownNumber (l .session) .
 -- no number for it
 pub data Acted (l : Line) (t : ℕ) : Ticked → Type 0 where
   nothing : (l .session .state ≡ Live → NothingDue l (later (l .now) t)) → Acted l t (says (timed l t) Good act.Nothing)
-  down : l .session .state ≡ Live → l .heard + 3 * wait l ≤ later (l .now) t → Acted l t (says (dropLine l t) Good act.Down)
-  test-request : l .session .state ≡ Live → later (l .now) t < l .heard + 3 * wait l → l .heard + 2 * wait l ≤ later (l .now) t
+  down : l .session .state ≡ Live → l .heard + toDown * wait l ≤ later (l .now) t → Acted l t (says (dropLine l t) Good act.Down)
+  test-request : l .session .state ≡ Live → later (l .now) t < l .heard + toDown * wait l → l .heard + toTestRequest * wait l ≤ later (l .now) t
       → l .tested ≡ false → (l .session .own ≡ last → ⊥)
       → Acted l t (says (sentLine true l t) Good (act.TestRequest (l .session .own) (idOf (l .session .own))))
-  heartbeat : l .session .state ≡ Live → later (l .now) t < l .heard + 3 * wait l → (l .tested ≡ false → later (l .now) t < l .heard + 2 * wait l)
-      → l .sent + wait l ≤ later (l .now) t → (l .session .own ≡ last → ⊥)
+  heartbeat : l .session .state ≡ Live → later (l .now) t < l .heard + toDown * wait l
+      → (l .tested ≡ false → later (l .now) t < l .heard + toTestRequest * wait l) → l .sent + wait l ≤ later (l .now) t → (l .session .own ≡ last → ⊥)
       → Acted l t (says (sentLine false l t) Good (act.Heartbeat (l .session .own)))
-  no-number : l .session .state ≡ Live → later (l .now) t < l .heard + 3 * wait l
-      → ((l .tested ≡ false) × (l .heard + 2 * wait l ≤ later (l .now) t)) ⊎ (l .sent + wait l ≤ later (l .now) t) → l .session .own ≡ last
+  no-number : l .session .state ≡ Live → later (l .now) t < l .heard + toDown * wait l
+      → ((l .tested ≡ false) × (l .heard + toTestRequest * wait l ≤ later (l .now) t)) ⊎ (l .sent + wait l ≤ later (l .now) t) → l .session .own ≡ last
       → Acted l t (says (dropLine l t) (Halted NoNumber) act.Nothing)
 
 -- a session after a tick: as it was, dropped, or with a number of ours used
@@ -99,26 +99,22 @@ pub record NextAt (l : Line) (m : ℕ) : Type 0 where
   pub before : (t : ℕ) → later (l .now) t < m → Rests l t
   pub acts : Rests l m → ⊥
 
--- ticks at these times, each no later than an interval w after the one before, the first after n
-pub data Steady (w : ℕ) : ℕ → List ℕ → Type 0 where
-  none : {n : ℕ} → Steady w n []
-  more : {n t : ℕ} {ts : List ℕ} → n ≤ t → t ≤ n + w → Steady w t ts → Steady w n (t ∷ ts)
+-- what happens on a silent line from the time n of a tick on: a tick no later than an interval w after the one before, the last of them at the time m; or
+-- anything by which the line hears nothing, or after which it is not Live
+pub data Silent (w : ℕ) : Line → ℕ → List Happening → ℕ → Type 0 where
+  none : {l : Line} {n : ℕ} → Silent w l n [] n
+  a-tick : {l : Line} {n m t : ℕ} {hs : List Happening} → later (l .now) t ≤ n + w → Silent w (afterLine l (ticks t)) (later (l .now) t) hs m
+      → Silent w l n (ticks t ∷ hs) m
+  other : {l : Line} {n m : ℕ} {h : Happening} {hs : List Happening} → (afterLine l h .session .state ≡ Live → afterLine l h .heard ≡ l .heard)
+      → Silent w (afterLine l h) n hs m → Silent w l n (h ∷ hs) m
 
-unfoldable pub lastTime : ℕ → List ℕ → ℕ
-lastTime n [] = n
-lastTime n (t ∷ ts) = lastTime t ts
-
-unfoldable pub ticked : Line → List ℕ → Line
-ticked l [] = l
-ticked l (t ∷ ts) = ticked (tick l t .line) ts
-
--- some first ones of these ticks leave the line Down, and the last of them is no later than m
-pub record DownBy (l : Line) (ts : List ℕ) (m : ℕ) : Type 0 where
-  pub first : List ℕ
-  pub others : List ℕ
-  pub both : ts ≡ first ++ others
-  pub down : ticked l first .session .state ≡ Down
-  pub within : ticked l first .now ≤ m
+-- some first ones of these leave the line Down, at a time no later than m
+pub record DownBy (l : Line) (hs : List Happening) (m : ℕ) : Type 0 where
+  pub first : List Happening
+  pub others : List Happening
+  pub both : hs ≡ first ++ others
+  pub down : afterLines l first .session .state ≡ Down
+  pub within : afterLines l first .now ≤ m
 
 -- what happens to a line that always hears before three intervals have passed: where a tick finds it Live, they have not passed since it last heard
 pub data InTime (l : Line) : Happening → Type 0 where
@@ -126,7 +122,7 @@ pub data InTime (l : Line) : Happening → Type 0 where
   at-drop : {t : ℕ} → InTime l (drops t)
   at-step : {t : ℕ} {b : List ℕ} → InTime l (lends t b)
   at-call : {t r q : ℕ} {b : List ℕ} → InTime l (many t b r q)
-  at-tick : {t : ℕ} → (l .session .state ≡ Live → later (l .now) t < l .heard + 3 * wait l) → InTime l (ticks t)
+  at-tick : {t : ℕ} → (l .session .state ≡ Live → later (l .now) t < l .heard + toDown * wait l) → InTime l (ticks t)
 
 -- a silence puts it Down
 pub data PutsDown (l : Line) : Happening → Type 0 where

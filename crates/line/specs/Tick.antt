@@ -6,7 +6,7 @@ use Rattle.session.specs.declared.day.Owned.{Owned}
 use Rattle.session.specs.declared.state.Code.{Code}
 use Rattle.session.specs.declared.state.Code.the-variants.{Good}
 use Rattle.session.specs.Day.{ownNumber}
-use Rattle.session.specs.State.{codeNumber}
+use Rattle.session.specs.State.{mostId, codeNumber}
 use Rattle.line.specs.declared.line.Line.{Line}
 use Rattle.line.specs.declared.tick.Act.{Act}
 use Rattle.line.specs.declared.tick.Act.the-variants as act
@@ -17,9 +17,20 @@ use Rattle.line.specs.declared.tick.NextTick.the-variants as next
 use Rattle.line.specs.declared.tick.Ticked.{Ticked}
 use Rattle.line.specs.Line.{later, isLive, movedLine, dropLine}
 
+-- milliseconds of a second
+abbrev pub second : ℕ
+second = 1000
+
+-- how many intervals without hearing bring a Test Request, and Down
+abbrev pub toTestRequest : ℕ
+toTestRequest = 2
+
+abbrev pub toDown : ℕ
+toDown = 3
+
 -- an interval in milliseconds
 unfoldable pub wait : Line → ℕ
-wait l = l .interval * 1000
+wait l = l .interval * second
 
 -- a wait is over once its time is reached
 unfoldable pub reached : ℕ → ℕ → ℕ → Bool
@@ -32,7 +43,7 @@ dueBy down test beat = cond down due.Down (cond test due.TestRequest (cond beat 
 
 unfoldable pub dueLive : Line → ℕ → Due
 dueLive l n =
-    dueBy (reached (l .heard) (3 * wait l) n) (reached (l .heard) (2 * wait l) n && not (l .tested)) (reached (l .sent) (wait l) n)
+    dueBy (reached (l .heard) (toDown * wait l) n) (reached (l .heard) (toTestRequest * wait l) n && not (l .tested)) (reached (l .sent) (wait l) n)
 
 unfoldable pub dueAt : Line → ℕ → Due
 dueAt l n = cond (isLive (l .session .state)) (dueLive l n) due.Nothing
@@ -62,9 +73,9 @@ testedLine test l = record {
 abbrev pub says : Line → Code → Act → Ticked
 says l code x = record { line = l; code = code; act = x }
 
--- a message with the number o of ours: a Test Request, whose ID is that number modulo 65,536, or a Heartbeat without ID; 22 where there is no number
+-- a message with a number of ours: a Test Request, whose ID is that number modulo 65,536, or a Heartbeat without ID; 22 where there is no number
 unfoldable pub idOf : ℕ → ℕ
-idOf n = n % 65536
+idOf n = n % (mostId + 1)
 
 unfoldable pub ownAct : Bool → ℕ → Act
 ownAct test n = cond test (act.TestRequest n (idOf n)) (act.Heartbeat n)
@@ -85,7 +96,8 @@ tickBy due.Heartbeat l t = numbered false l t (ownNumber (l .session))
 unfoldable pub tick : Line → ℕ → Ticked
 tick l t = tickBy (dueAt l (later (l .now) t)) l t
 
--- when the next tick is due: the earliest time, not before the latest given, at which tick would act; none where the line is not Live, or past 64 bits
+-- when the next tick is due: the earliest time, not before the latest given, at which tick would act, or answer 22; none where the line is not Live, or
+-- past 64 bits
 abbrev pub mostTime : ℕ
 mostTime = 18446744073709551615
 
@@ -103,7 +115,7 @@ notBefore n next.Never = next.Never
 
 -- of a silence its Test Request is next, and Down where it has had one
 unfoldable pub silenceDue : Line → ℕ
-silenceDue l = l .heard + cond (l .tested) 3 2 * wait l
+silenceDue l = l .heard + cond (l .tested) toDown toTestRequest * wait l
 
 unfoldable pub nextTick : Line → NextTick
 nextTick l = cond (isLive (l .session .state)) (notBefore (l .now) (earlier (atTime (silenceDue l)) (atTime (l .sent + wait l)))) next.Never

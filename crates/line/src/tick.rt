@@ -236,7 +236,7 @@ impl Line {
         at_time(self.heard, TEST_REQUEST * wait)
     }
 
-    // The earliest time, not before the latest given, at which a tick would act.
+    // The earliest time, not before the latest given, at which a tick would act, or answer 22.
     pub fn next_tick(self) -> NextTick
         ensures { λ r. ⌜ r ≡ nextTick self ⌝ }
     {
