@@ -7,19 +7,18 @@ use crate::proved::{
     Made, Send, Stepped,
 };
 use crate::{
-    any_struct, bend, hex, hold_put, hold_put_logon, lay_slot, length_of, library_many, logon_room,
-    met, met_of, missed, named, note, numbers_of, odd_comp_id, odd_password, rooms, row_struct,
-    session_for_many, session_of, shown, shown_send, small_rooms, small_sessions, some_fills,
-    some_live, some_session, struct_of, Fills, Lists, Rooms, Situation, Tally, NOT_A_SESSION,
-    NO_DAY, SESSION_EDGES,
+    any_struct, bend, hex, hold_put, hold_put_logon, length_of, library_many, logon_room, met,
+    met_of, missed, named, note, odd_comp_id, odd_password, rooms, row_struct, session_for_many,
+    session_of, shown, shown_send, singles_by, small_rooms, small_sessions, some_fills, some_live,
+    some_session, struct_of, Fills, Lists, Rooms, Situation, Tally, NOT_A_SESSION, NO_DAY,
+    SESSION_EDGES,
 };
 use std::ops::RangeInclusive;
 use twin::line::{Act, Line, Ticked, INTERVALS, TO_DOWN, TO_HEARTBEAT, TO_TEST_REQUEST};
 use twin::make::{self, Rng, Sent, Start};
 use twin::reader::{self, A_FIELD};
 use twin::reports::LIST;
-use twin::session::{self, Answer, Ended, Phase, RowSort, A_ROW, A_SEND, LAST};
-use twin::session::{ROWS_A_STEP, SENDS_A_STEP};
+use twin::session::{self, Answer, Ended, Phase, A_ROW, A_SEND, LAST};
 use twin::tables::types;
 use twin::wire::{self, Allowed, Refusal};
 
@@ -743,6 +742,19 @@ fn hold_line_drop(tally: &mut Tally, l: proved::Line, time: u64) -> proved::Line
     answer.line
 }
 
+/// What a step answers, without the clock.
+fn step_without_clock(answer: LineStepped) -> Stepped {
+    Stepped {
+        refusal: answer.refusal,
+        session: answer.line.session,
+        first: answer.first,
+        second: answer.second,
+        row: answer.row,
+        used: answer.used,
+        besides: answer.besides,
+    }
+}
+
 fn hold_line_step(tally: &mut Tally, l: proved::Line, time: u64, bytes: &[u8]) -> LineStepped {
     let input = |how: &str| {
         let (line, bytes) = (shown_line(&l), hex(bytes));
@@ -773,15 +785,7 @@ fn hold_line_step(tally: &mut Tally, l: proved::Line, time: u64, bytes: &[u8]) -
         besides: step.besides as usize,
     };
     tally.hold(answer.refusal, answer, its_answer, || input("twin"));
-    let clockless = Stepped {
-        refusal: its_answer.refusal,
-        session: its_answer.line.session,
-        first: its_answer.first,
-        second: its_answer.second,
-        row: its_answer.row,
-        used: its_answer.used,
-        besides: its_answer.besides,
-    };
+    let clockless = step_without_clock(its_answer);
     let its_own = proved::step(l.session, bytes);
     tally.hold(answer.refusal, its_own, clockless, || input("no clock"));
     see(tally, before, time, Did::Step(step), line);
@@ -815,71 +819,12 @@ fn library_line_many(
 }
 
 /// What a call must give, by the library's own single steps in turn at the one time.
-/// The first is on no bytes: it tells the time, and whether the line is up.
-fn line_singles(l: proved::Line, time: u64, bytes: &[u8], mut lists: Lists) -> (LineDone, Lists) {
-    let (rows, sends) = lists.lent();
-    let least = Rooms::steps(1);
-    let told = proved::line_step(l, time, &[]);
-    let mut done = LineDone {
-        line: told.line,
-        ..LineDone::default()
-    };
-    if told.refusal == session::DOWN {
-        done.refusal = session::DOWN;
-        done.ended = Ended::Down as u32;
-        done.code = session::DOWN;
-        return (done, lists);
-    }
-    if told.refusal != wire::SHORT {
-        done.refusal = told.refusal;
-        return (done, lists);
-    }
-    if rows.len() < least.rows || sends.len() < least.sends {
-        done.refusal = wire::NO_ROOM;
-        done.ended = Ended::NoSlot as u32;
-        (done.rows, done.sends) = (ROWS_A_STEP, SENDS_A_STEP);
-        return (done, lists);
-    }
-    loop {
-        let rest = &bytes[done.used..];
-        let answer = proved::line_step(done.line, time, rest);
-        if answer.refusal == wire::SHORT {
-            done.ended = Ended::Short as u32;
-            done.besides = answer.besides;
-            return (done, lists);
-        }
-        // A line that its own step gave and refuses now: the turn would be endless, and
-        // what it ends with is a difference.
-        if answer.refusal == NOT_A_SESSION {
-            done.refusal = NOT_A_SESSION;
-            return (done, lists);
-        }
-        let row = answer.row;
-        let to_send = [answer.first, answer.second];
-        let to_send = to_send.iter().filter(|send| send.kind != 0);
-        let row_end = done.rows + usize::from(row.kind != RowSort::None as u32);
-        let send_end = done.sends + to_send.clone().count();
-        if A_ROW * row_end > rows.len() || A_SEND * send_end > sends.len() {
-            done.ended = Ended::NoSlot as u32;
-            return (done, lists);
-        }
-        if row_end > done.rows {
-            let place = [done.used as u32, answer.used as u32];
-            let numbers = [row.kind, row.first, row.last, place[0], place[1]];
-            lay_slot(rows, done.rows, &numbers);
-        }
-        for (index, send) in (done.sends..).zip(to_send) {
-            lay_slot(sends, index, &numbers_of(*send));
-        }
-        done.line = answer.line;
-        done.used += answer.used;
-        (done.rows, done.sends) = (row_end, send_end);
-        if done.line.session.state == proved::DOWN {
-            done.ended = Ended::Down as u32;
-            (done.code, done.besides) = (answer.refusal, answer.besides);
-            return (done, lists);
-        }
-    }
+fn line_singles(l: proved::Line, time: u64, bytes: &[u8], lists: Lists) -> (LineDone, Lists) {
+    let (line, done, lists) = singles_by(l, bytes, lists, |line, rest| {
+        let answer = proved::line_step(line, time, rest);
+        (answer.line, step_without_clock(answer))
+    });
+    (LineDone::of(line, done), lists)
 }
 
 /// Whether the checksum of one of the messages, which stand back to back, does not

@@ -45,6 +45,7 @@ unfoldable pub dueLive : Line → ℕ → Due
 dueLive l n =
     dueBy (reached (l .heard) (toDown * wait l) n) (reached (l .heard) (toTestRequest * wait l) n && not (l .tested)) (reached (l .sent) (wait l) n)
 
+-- only Live is timed
 unfoldable pub dueAt : Line → ℕ → Due
 dueAt l n = cond (isLive (l .session .state)) (dueLive l n) due.Nothing
 
@@ -96,8 +97,7 @@ tickBy due.Heartbeat l t = numbered false l t (ownNumber (l .session))
 unfoldable pub tick : Line → ℕ → Ticked
 tick l t = tickBy (dueAt l (later (l .now) t)) l t
 
--- when the next tick is due: the earliest time, not before the latest given, at which tick would act, or answer 22; none where the line is not Live, or
--- past 64 bits
+-- a time has 64 bits
 abbrev pub mostTime : ℕ
 mostTime = 18446744073709551615
 
@@ -117,5 +117,7 @@ notBefore n next.Never = next.Never
 unfoldable pub silenceDue : Line → ℕ
 silenceDue l = l .heard + cond (l .tested) toDown toTestRequest * wait l
 
+-- when the next tick is due: the earliest time, not before the latest given, at which tick would act, or answer 22; none where the line is not Live, or
+-- past 64 bits
 unfoldable pub nextTick : Line → NextTick
 nextTick l = cond (isLive (l .session .state)) (notBefore (l .now) (earlier (atTime (silenceDue l)) (atTime (l .sent + wait l)))) next.Never

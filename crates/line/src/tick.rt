@@ -6,7 +6,8 @@ use session::state::Code;
 ghost use mathlib.Core.Path.{_≡_};
 ghost use Prim.Native.Nat.{_+_, _*_, _≤_};
 ghost use Rattle.session.specs.Day.{ownNumber};
-ghost use Rattle.line.specs.Tick.{wait, reached, dueBy, dueLive, dueAt, idOf, timed, testedLine, ownAct, says, numbered, tick, atTime, earlier, notBefore, silenceDue, nextTick};
+ghost use Rattle.session.specs.State.{last};
+ghost use Rattle.line.specs.Tick.{second, wait, reached, dueBy, dueLive, dueAt, idOf, timed, testedLine, ownAct, says, numbered, tick, atTime, earlier, notBefore, silenceDue, nextTick};
 
 // Milliseconds of a second.
 const SECOND: u64 = 1000;
@@ -137,7 +138,7 @@ impl Line {
     // An interval in milliseconds.
     fn wait(self) -> u64
         ensures { λ r. ⌜ r ≡ wait self ⌝ }
-        ensures { λ r. ⌜ r ≤ 4294967295000 ⌝ }
+        ensures { λ r. ⌜ r ≤ last * second ⌝ }
     {
         self.interval as u64 * SECOND
     }

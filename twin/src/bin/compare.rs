@@ -1657,16 +1657,23 @@ fn lay_slot(list: &mut [u32], index: usize, numbers: &[u32]) {
     list[index * numbers.len()..][..numbers.len()].copy_from_slice(numbers);
 }
 
-/// What a call must give, by the library's own single steps in turn.
-fn singles(s: proved::Session, bytes: &[u8], mut lists: Lists) -> (Done, Lists) {
+/// What a call must give, by the library's own single steps in turn: `step` gives
+/// what is kept after a step, a session or a line, and the session's answer. The
+/// first is on no bytes: it tells whether the session is up, and a line the time.
+fn singles_by<S: Copy>(
+    given: S,
+    bytes: &[u8],
+    mut lists: Lists,
+    step: impl Fn(S, &[u8]) -> (S, Stepped),
+) -> (S, Done, Lists) {
     let (rows, sends) = lists.lent();
+    let (mut kept, told) = step(given, &[]);
     let mut done = Done {
-        session: s,
+        session: told.session,
         ..Done::default()
     };
-    // With no bytes a session that is up answers 1.
     let least = Rooms::steps(1);
-    done.refusal = match proved::step(s, &[]).refusal {
+    done.refusal = match told.refusal {
         wire::SHORT if rows.len() < least.rows || sends.len() < least.sends => wire::NO_ROOM,
         wire::SHORT => 0,
         refusal => refusal,
@@ -1676,28 +1683,28 @@ fn singles(s: proved::Session, bytes: &[u8], mut lists: Lists) -> (Done, Lists) 
         session::DOWN => {
             done.ended = Ended::Down as u32;
             done.code = session::DOWN;
-            return (done, lists);
+            return (kept, done, lists);
         }
         wire::NO_ROOM => {
             done.ended = Ended::NoSlot as u32;
             (done.rows, done.sends) = (ROWS_A_STEP, SENDS_A_STEP);
-            return (done, lists);
+            return (kept, done, lists);
         }
-        _ => return (done, lists),
+        _ => return (kept, done, lists),
     }
     loop {
         let rest = &bytes[done.used..];
-        let answer = proved::step(done.session, rest);
+        let (after, answer) = step(kept, rest);
         if answer.refusal == wire::SHORT {
             done.ended = Ended::Short as u32;
             done.besides = answer.besides;
-            return (done, lists);
+            return (kept, done, lists);
         }
-        // A session that its own step gave and refuses now: the turn would be
-        // endless, and what it ends with is a difference.
+        // What its own step gave and refuses now: the turn would be endless, and what
+        // it ends with is a difference.
         if answer.refusal == NOT_A_SESSION {
             done.refusal = NOT_A_SESSION;
-            return (done, lists);
+            return (kept, done, lists);
         }
         let Row { kind, first, last } = answer.row;
         let to_send = [answer.first, answer.second];
@@ -1706,7 +1713,7 @@ fn singles(s: proved::Session, bytes: &[u8], mut lists: Lists) -> (Done, Lists) 
         let send_end = done.sends + to_send.clone().count();
         if A_ROW * row_end > rows.len() || A_SEND * send_end > sends.len() {
             done.ended = Ended::NoSlot as u32;
-            return (done, lists);
+            return (kept, done, lists);
         }
         if kind != 0 {
             let numbers = [kind, first, last, done.used as u32, answer.used as u32];
@@ -1715,15 +1722,25 @@ fn singles(s: proved::Session, bytes: &[u8], mut lists: Lists) -> (Done, Lists) 
         for (index, send) in (done.sends..).zip(to_send) {
             lay_slot(sends, index, &numbers_of(*send));
         }
+        kept = after;
         done.session = answer.session;
         done.used += answer.used;
         (done.rows, done.sends) = (row_end, send_end);
         if done.session.state == proved::DOWN {
             done.ended = Ended::Down as u32;
             (done.code, done.besides) = (answer.refusal, answer.besides);
-            return (done, lists);
+            return (kept, done, lists);
         }
     }
+}
+
+/// The same of a session.
+fn singles(s: proved::Session, bytes: &[u8], lists: Lists) -> (Done, Lists) {
+    let (_, done, lists) = singles_by(s, bytes, lists, |s, rest| {
+        let answer = proved::step(s, rest);
+        (answer.session, answer)
+    });
+    (done, lists)
 }
 
 /// What a call over all the bytes must give, by the library's calls over their
