@@ -1,4 +1,4 @@
-use crate::daysheet::daysheet;
+use crate::daysheet::{self, daysheet, LIST_FULL, MOST_KEPT};
 use crate::gateway::{self, Asked, Wrong};
 use crate::line::{Act, Line, Ticked, BAD_INTERVAL, NO_ACT};
 use crate::make::{self, Event, Given, Rng, Sent, Text};
@@ -208,17 +208,26 @@ row=filled first=3 last=4 next=5 out=none
 row=business first=5 last=5 next=6 out=none
 row=none first=0 last=0 next=6 out=none
 ";
-    assert_eq!(String::from_utf8(daysheet(input)).unwrap(), output);
+    assert_eq!(printed_by_both(input), output);
     let unended = &input[..input.len() - 1];
-    assert_eq!(String::from_utf8(daysheet(unended)).unwrap(), output);
+    assert_eq!(printed_by_both(unended), output);
 }
 
 // ---- Daysheet ----
 
+/// What daysheet prints for lines that the plain recorder has room for: the plain
+/// recorder prints the same.
+fn printed_by_both(input: &[u8]) -> String {
+    let quick = String::from_utf8(daysheet(input)).unwrap();
+    let plain = String::from_utf8(daysheet::plain(input)).unwrap();
+    assert_eq!(plain, quick, "{}", String::from_utf8_lossy(input));
+    quick
+}
+
 #[test]
 fn daysheet_bad_lines() {
-    assert_eq!(daysheet(b""), b"sheet=1\n");
-    assert_eq!(daysheet(b"\n"), b"sheet=1\nbad=1\n");
+    assert_eq!(printed_by_both(b""), "sheet=1\n");
+    assert_eq!(printed_by_both(b"\n"), "sheet=1\nbad=1\n");
     for bad in [
         "kind=logon n=0 dup=0 new=0",
         "kind=logon n=1 dup=2 new=0",
@@ -236,12 +245,11 @@ fn daysheet_bad_lines() {
         "kind=logout n=1 dup=0 new=0",
         "kind=logon n=1 dup=0 new=0\r",
     ] {
-        assert_eq!(daysheet(bad.as_bytes()), b"sheet=1\nbad=1\n", "{}", bad);
+        assert_eq!(printed_by_both(bad.as_bytes()), "sheet=1\nbad=1\n");
     }
     let text = b"kind=logon n=1 dup=0 new=0\nno\nkind=business n=2 dup=0 new=0\n";
-    let printed = String::from_utf8(daysheet(text)).unwrap();
     assert_eq!(
-        printed,
+        printed_by_both(text),
         "sheet=1\nrow=session first=1 last=1 next=2 out=none\nbad=2\n"
     );
 }
@@ -255,7 +263,7 @@ kind=business n=6 dup=0 new=0
 kind=business n=7 dup=0 new=0
 ";
     assert_eq!(
-        String::from_utf8(daysheet(text)).unwrap(),
+        printed_by_both(text),
         "sheet=1
 row=session first=1 last=1 next=2 out=none
 row=reset first=2 last=6 next=7 out=none
@@ -270,7 +278,7 @@ row=none first=0 last=0 next=7 out=none
 #[test]
 fn daysheet_with_holes() {
     assert_eq!(
-        String::from_utf8(daysheet(make::SHEET_WITH_HOLES)).unwrap(),
+        printed_by_both(make::SHEET_WITH_HOLES),
         "sheet=1
 row=session first=1 last=1 next=2 out=none
 row=none first=0 last=0 next=2 out=resend
@@ -298,7 +306,7 @@ kind=business n=6 dup=1 new=0
 kind=business n=6 dup=1 new=0
 ";
     assert_eq!(
-        String::from_utf8(daysheet(text)).unwrap(),
+        printed_by_both(text),
         "sheet=1
 row=session first=1 last=1 next=2 out=none
 row=none first=0 last=0 next=2 out=resend
@@ -311,6 +319,204 @@ row=none first=0 last=0 next=4 out=resend
 row=none first=0 last=0 next=4 out=logout
 "
     );
+}
+
+// ---- Daysheet, the plain recorder (document 02, item 11) ----
+
+/// E is the last number there is, and M may be it too: neither is ever passed, and
+/// the message that bears it stops the session.
+#[test]
+fn both_recorders_stop_at_the_last_number() {
+    for (line, out) in [
+        ("kind=business n=4294967295 dup=0 new=0", "logout"),
+        ("kind=business n=4294967295 dup=1 new=0", "logout"),
+        ("kind=gapfill n=4294967295 dup=1 new=4294967295", "logout"),
+        ("kind=gapfill n=4294967294 dup=1 new=4294967295", "none"),
+        ("kind=reset n=4294967295 dup=0 new=4294967295", "none"),
+    ] {
+        let text = format!(
+            "kind=logon n=1 dup=0 new=0
+kind=business n=4294967295 dup=0 new=0
+kind=business n=4294967295 dup=1 new=0
+kind=gapfill n=2 dup=1 new=4294967294
+kind=business n=4294967295 dup=1 new=0
+kind=business n=4294967294 dup=1 new=0
+{}
+",
+            line
+        );
+        let output = format!(
+            "sheet=1
+row=session first=1 last=1 next=2 out=none
+row=none first=0 last=0 next=2 out=resend
+row=none first=0 last=0 next=2 out=resend
+row=filled first=2 last=4294967293 next=4294967294 out=none
+row=none first=0 last=0 next=4294967294 out=resend
+row=business first=4294967294 last=4294967294 next=4294967295 out=none
+row=none first=0 last=0 next=4294967295 out={}
+",
+            out
+        );
+        assert_eq!(printed_by_both(text.as_bytes()), output);
+    }
+    // A logon ahead of E begins the day even so, and takes and asks nothing.
+    let text = b"kind=logon n=4294967295 dup=0 new=0
+kind=business n=1 dup=0 new=0
+";
+    assert_eq!(
+        printed_by_both(text),
+        "sheet=1
+row=none first=0 last=0 next=1 out=none
+row=business first=1 last=1 next=2 out=none
+"
+    );
+}
+
+/// What is ahead with PossDup 0 is no repeat, at any count; two are asked, and the
+/// third stops.
+#[test]
+fn both_recorders_stop_at_the_third_repeat() {
+    let text = b"kind=logon n=1 dup=0 new=0
+kind=business n=9 dup=1 new=0
+kind=business n=3 dup=1 new=0
+kind=business n=4 dup=0 new=0
+kind=gapfill n=9 dup=1 new=9
+kind=business n=5 dup=0 new=0
+kind=gapfill n=10 dup=1 new=3
+kind=business n=2 dup=1 new=0
+";
+    assert_eq!(
+        printed_by_both(text),
+        "sheet=1
+row=session first=1 last=1 next=2 out=none
+row=none first=0 last=0 next=2 out=resend
+row=none first=0 last=0 next=2 out=resend
+row=none first=0 last=0 next=2 out=none
+row=none first=0 last=0 next=2 out=resend
+row=none first=0 last=0 next=2 out=none
+row=none first=0 last=0 next=2 out=logout
+row=none first=0 last=0 next=2 out=none
+"
+    );
+}
+
+/// Every sheet of up to four lines after a logon, of lines on all sides of E and M.
+#[test]
+fn both_recorders_print_the_same_on_every_short_sheet() {
+    const LINES: [&str; 11] = [
+        "kind=logon n=2 dup=0 new=0\n",
+        "kind=business n=2 dup=0 new=0\n",
+        "kind=business n=2 dup=1 new=0\n",
+        "kind=business n=3 dup=0 new=0\n",
+        "kind=business n=3 dup=1 new=0\n",
+        "kind=business n=4 dup=1 new=0\n",
+        "kind=gapfill n=2 dup=1 new=2\n",
+        "kind=gapfill n=2 dup=1 new=3\n",
+        "kind=gapfill n=3 dup=1 new=5\n",
+        "kind=reset n=1 dup=0 new=2\n",
+        "kind=reset n=5 dup=0 new=4\n",
+    ];
+    let mut sheets = vec![
+        String::new(),
+        String::from("kind=logon n=1 dup=0 new=0\n"),
+        String::from("kind=logon n=2 dup=0 new=0\n"),
+    ];
+    let mut from = 0;
+    for _ in 0..4 {
+        let until = sheets.len();
+        for at in from..until {
+            sheets.extend(LINES.map(|line| sheets[at].clone() + line));
+        }
+        from = until;
+    }
+    for sheet in &sheets {
+        printed_by_both(sheet.as_bytes());
+    }
+}
+
+#[test]
+fn both_recorders_print_the_same_on_random_sheets() {
+    let mut rng = Rng::new(31);
+    let mut all = String::new();
+    for round in 0..400 {
+        let count = if round % 20 == 0 { 300 } else { rng.index(40) };
+        let sheet = if rng.chance(50) {
+            make::hole_sheet(&mut rng, count)
+        } else {
+            make::sheet(&mut rng, count)
+        };
+        all += &printed_by_both(&sheet);
+    }
+    // The sheets bring out everything that a line can.
+    for part in [
+        "row=none",
+        "row=business",
+        "row=session",
+        "row=filled",
+        "row=reset",
+        "out=none",
+        "out=resend",
+        "out=logout",
+        "bad=",
+    ] {
+        assert!(all.contains(part), "{}", part);
+    }
+}
+
+/// A day of so many good lines.
+fn long_day(count: usize) -> Vec<u8> {
+    let mut text = String::from("kind=logon n=1 dup=0 new=0\n");
+    for n in 2..=count {
+        text += &format!("kind=business n={} dup=0 new=0\n", n);
+    }
+    text.into_bytes()
+}
+
+/// What both print for as many lines as the list holds, and one line more of the
+/// plain recorder's.
+fn printed_of_a_full_list(full: &[u8], last: &str) -> Vec<u8> {
+    let mut printed = printed_by_both(full);
+    assert_eq!(printed.lines().count(), 1 + MOST_KEPT);
+    printed += last;
+    printed.into_bytes()
+}
+
+#[test]
+fn the_plain_recorder_takes_4096_lines_and_refuses_the_next() {
+    assert_eq!((MOST_KEPT, LIST_FULL), (4_096, 41));
+    let full = long_day(4_096);
+    let unended = &full[..full.len() - 1];
+    assert_eq!(printed_by_both(unended), printed_by_both(&full));
+    let refused = printed_of_a_full_list(&full, "refused=41 line=4097\n");
+    for count in [4_097, 4_098, 10_000] {
+        let text = long_day(count);
+        assert_eq!(daysheet::plain(&text), refused);
+        assert!(daysheet(&text).len() > refused.len());
+    }
+    // Nothing behind the refused line is read, not even a bad one.
+    let text = [&long_day(4_097)[..], b"no\n"].concat();
+    assert_eq!(daysheet::plain(&text), refused);
+}
+
+/// Lines that do nothing are kept all the same: the session is Down from the second
+/// line on.
+#[test]
+fn the_plain_recorder_keeps_lines_after_a_stop() {
+    let logon = b"kind=logon n=1 dup=0 new=0\n";
+    let full = logon.repeat(4_096);
+    let refused = printed_of_a_full_list(&full, "refused=41 line=4097\n");
+    assert_eq!(daysheet::plain(&logon.repeat(4_097)), refused);
+}
+
+#[test]
+fn the_plain_recorder_reads_a_line_before_it_asks_for_room() {
+    let full = long_day(4_096);
+    let bad = printed_of_a_full_list(&full, "bad=4097\n");
+    for line in ["no\n", "\n", "kind=business n=4097 dup=2 new=0"] {
+        let text = [&full[..], line.as_bytes()].concat();
+        assert_eq!(daysheet::plain(&text), bad);
+        assert_eq!(daysheet(&text), bad);
+    }
 }
 
 // ---- Reader ----
@@ -4393,7 +4599,7 @@ fn random_bytes_never_panic() {
             plain::write(&head, US, &map, &bytes, &mut [0; 300]),
             written
         );
-        daysheet(&bytes);
+        printed_by_both(&bytes);
     }
 }
 

@@ -1,62 +1,124 @@
 // Reads lines kind=K n=N dup=D new=X from standard input and prints what each does to a session (document 01, "Program
 // daysheet").
+//
+//     daysheet [--plain]
+//
+// With --plain the plain recorder answers (document 02, item 11). It prints the same, and ends at a line that finds its list
+// of 4,096 full.
 use libc::STDERR_FILENO;
 use libc::STDIN_FILENO;
 use libc::STDOUT_FILENO;
+use plain::Arrived;
+use plain::Day;
+use plain::MOST_ARRIVALS;
+use plain::Told;
+use plain::arrive;
 use session::state::Session;
+use sheet::line::Line;
+use sheet::line::Said;
+use sheet::line::begins_with;
+use sheet::line::read_line;
 use sheet::print::put_bad;
+use sheet::print::put_full;
+use sheet::print::put_line;
 use sheet::sheet::End;
 use sheet::sheet::begun;
 use sheet::sheet::take_lines;
+use spelt::line_length;
 ghost use mathlib.Core.Path.{_≡_};
 ghost use Prim.Native.Nat.{_-_, _≤_};
 ghost use lib.ListN.{length, take, drop};
 
-// What is kept from turn to turn: the session, the next line's number, how many unread bytes stand at the front of the
-// input buffer, whether the input has ended, and whether to go on.
-struct Day {
+// The recorder: the quick one's session, how many arrivals the plain one has kept, and the next line's number.
+struct Recorder {
     session: Session,
+    kept: usize,
     count: u64,
-    unread: usize,
+}
+
+// What is kept from turn to turn: the recorder, where the unread bytes of the input buffer begin and end, whether the input
+// has ended, and whether to go on.
+struct Progress {
+    recorder: Recorder,
+    from: usize,
+    end: usize,
     closed: bool,
     going: bool,
 }
 
-impl Day {
-    // The same with other bytes unread.
-    fn with(self, unread: usize, closed: bool, going: bool) -> Day {
+// What comes next: more input, more of the lines that are there, or nothing.
+enum Next {
+    Input,
+    Lines,
+    Nothing,
+}
+
+// What lines gave: the recorder after them, how many bytes they are and how many were printed, and what comes next.
+struct Took {
+    recorder: Recorder,
+    used: usize,
+    written: usize,
+    next: Next,
+}
+
+impl Recorder {
+    // The plain one after a line: it has kept so many.
+    fn took(self, kept: usize, used: usize, written: usize, next: Next) -> Took {
         let session = self.session;
-        Day {
+        let count = self.count;
+        let recorder = Recorder {
             session,
-            count: self.count,
-            unread,
+            kept,
+            count: if count < u64::MAX { count + 1 } else { count },
+        };
+        Took {
+            recorder,
+            used,
+            written,
+            next,
+        }
+    }
+}
+
+impl Progress {
+    // The same with other unread bytes.
+    fn with(self, from: usize, end: usize, closed: bool, going: bool) -> Progress {
+        let recorder = self.recorder;
+        Progress {
+            recorder,
+            from,
+            end,
             closed,
             going,
         }
     }
 
-    fn stopped(self) -> Day {
-        self.with(0, true, false)
+    fn stopped(self) -> Progress {
+        self.with(0, 0, true, false)
     }
 }
 
-// The first n bytes, or none where there are not so many.
-fn front(buf: &[u8], n: usize) -> &[u8] {
-    if buf.len() < n {
+fn complain(text: &[u8]) {
+    io::write_all(STDERR_FILENO, text);
+}
+
+// The bytes from `from` to `end`, or none where they are not such.
+fn part(buf: &[u8], from: usize, end: usize) -> &[u8] {
+    if buf.len() < end {
         return &buf[..0];
     }
-    &buf[..n]
+    if end < from {
+        return &buf[..0];
+    }
+    &buf[from..end]
 }
 
 // Writes the first n bytes to standard output: whether it could.
 fn print(out: &[u8], n: usize) -> bool {
-    if io::write_all(STDOUT_FILENO, front(out, n)) {
+    if io::write_all(STDOUT_FILENO, part(out, 0, n)) {
         return true;
     }
-    io::write_all(
-        STDERR_FILENO,
-        b"daysheet: the standard output cannot be written\n",
-    );
+    complain(b"daysheet: the standard output cannot be written\n");
     false
 }
 
@@ -84,83 +146,236 @@ fn to_front(buf: &mut [u8], from: usize, end: usize) -> usize
 }
 
 // No whole line is left: more is read behind the unread bytes. At the end of the input a line without its end gets one.
-fn more(day: Day, buf: &mut [u8], out: &mut [u8]) -> Day {
-    let kept = day.unread;
-    if day.closed {
-        return day.stopped();
+fn more(so_far: Progress, buf: &mut [u8], out: &mut [u8]) -> Progress {
+    let recorder = so_far.recorder;
+    if so_far.closed {
+        return so_far.stopped();
     }
+    let kept = so_far.end;
     if buf.len() <= kept {
-        let laid = put_bad(out, day.count);
+        let laid = put_bad(out, recorder.count);
         print(out, laid.besides());
-        return day.stopped();
+        return so_far.stopped();
     }
     let room = &mut buf[kept..];
     let got = libc::read(STDIN_FILENO, room);
     let came = io::count(got, room);
     if got < 0 {
-        io::write_all(
-            STDERR_FILENO,
-            b"daysheet: the standard input cannot be read\n",
-        );
-        return day.stopped();
+        complain(b"daysheet: the standard input cannot be read\n");
+        return so_far.stopped();
     }
     if 0 < came {
-        return day.with(kept + came, false, true);
+        return so_far.with(0, kept + came, false, true);
     }
     if kept == 0 {
-        return day.stopped();
+        return so_far.stopped();
     }
     buf[kept] = 10;
-    day.with(kept + 1, true, true)
+    so_far.with(0, kept + 1, true, true)
 }
 
-// One turn: every whole line in the buffer, and then more input.
-fn turn(day: Day, buf: &mut [u8], out: &mut [u8]) -> Day {
-    let session = day.session;
-    let taken = take_lines(session, day.count, front(buf, day.unread), out);
-    let next = taken.session;
+// The quick recorder takes every whole line for whose printed line there is room.
+fn quick(recorder: Recorder, s: &[u8], out: &mut [u8]) -> Took {
+    let session = recorder.session;
+    let taken = take_lines(session, recorder.count, s, out);
+    let session = taken.session;
     let end = taken.end;
-    let unread = to_front(buf, taken.used, day.unread);
-    let after = Day {
-        session: next,
+    let next = match end {
+        End::NoLine => Next::Input,
+        End::NoRoom => Next::Lines,
+        End::BadLine => Next::Nothing,
+    };
+    let recorder = Recorder {
+        session,
+        kept: 0,
         count: taken.count,
-        unread,
-        closed: day.closed,
+    };
+    Took {
+        recorder,
+        used: taken.used,
+        written: taken.written,
+        next,
+    }
+}
+
+// E.
+fn expected(day: Day) -> u32 {
+    match day {
+        Day::Down(e, _) => e,
+        Day::Waiting(e, _) => e,
+        Day::Live(e, _, _, _) => e,
+    }
+}
+
+// The line of the plain recorder's answer: its length.
+fn tell(told: Told, out: &mut [u8]) -> usize {
+    let day = told.day;
+    let row = told.row;
+    let send = told.send;
+    let laid = put_line(out, row, expected(day), send);
+    laid.besides()
+}
+
+// The plain recorder takes a line of so many bytes. One that its list has no room for is the last, as a bad one is.
+fn keep(
+    recorder: Recorder,
+    line: Line,
+    used: usize,
+    list: &mut [[u32; 4]],
+    out: &mut [u8],
+) -> Took {
+    let kept = recorder.kept;
+    let arrived = arrive(list, kept, line);
+    match arrived {
+        Arrived::Kept(count, told) => {
+            let written = tell(told, out);
+            recorder.took(count, used, written, Next::Lines)
+        }
+        Arrived::Full => {
+            let laid = put_full(out, recorder.count);
+            recorder.took(kept, used, laid.besides(), Next::Nothing)
+        }
+    }
+}
+
+// The plain recorder takes one line, if there is a whole one.
+fn plainly(recorder: Recorder, s: &[u8], list: &mut [[u32; 4]], out: &mut [u8]) -> Took {
+    let kept = recorder.kept;
+    let n = line_length(s);
+    if s.len() <= n {
+        return Took {
+            recorder,
+            used: 0,
+            written: 0,
+            next: Next::Input,
+        };
+    }
+    let said = read_line(part(s, 0, n));
+    match said {
+        Said::Line(line) => keep(recorder, line, n + 1, list, out),
+        Said::Bad => {
+            let laid = put_bad(out, recorder.count);
+            recorder.took(kept, n + 1, laid.besides(), Next::Nothing)
+        }
+    }
+}
+
+// Where the unread bytes begin once so many more are used.
+fn forward(from: usize, used: usize, end: usize) -> usize {
+    if end < from {
+        return end;
+    }
+    if end - from < used {
+        return end;
+    }
+    from + used
+}
+
+// What was printed is written out; then more is read where no whole line is left.
+fn on(so_far: Progress, took: Took, buf: &mut [u8], out: &mut [u8]) -> Progress {
+    let recorder = took.recorder;
+    let next = took.next;
+    let from = forward(so_far.from, took.used, so_far.end);
+    let after = Progress {
+        recorder,
+        from,
+        end: so_far.end,
+        closed: so_far.closed,
         going: true,
     };
-    if !print(out, taken.written) {
+    if !print(out, took.written) {
         return after.stopped();
     }
-    match end {
-        End::NoLine => more(after, buf, out),
-        End::NoRoom => after,
-        End::BadLine => after.stopped(),
+    match next {
+        Next::Input => {
+            let kept = to_front(buf, from, so_far.end);
+            more(after.with(0, kept, so_far.closed, true), buf, out)
+        }
+        Next::Lines => after,
+        Next::Nothing => after.stopped(),
     }
+}
+
+// One turn: lines of the buffer, and then more input.
+fn turn(
+    so_far: Progress,
+    plain: bool,
+    buf: &mut [u8],
+    list: &mut [[u32; 4]],
+    out: &mut [u8],
+) -> Progress {
+    let recorder = so_far.recorder;
+    if plain {
+        let took = plainly(recorder, part(buf, so_far.from, so_far.end), list, out);
+        return on(so_far, took, buf, out);
+    }
+    let took = quick(recorder, part(buf, so_far.from, so_far.end), out);
+    on(so_far, took, buf, out)
 }
 
 // A proved loop ends, and nothing says that the input does: turns are counted down from a number that no run uses up.
-fn run(day: Day, buf: &mut [u8], out: &mut [u8]) {
-    let mut d = day;
+fn run(start: Progress, plain: bool, buf: &mut [u8], list: &mut [[u32; 4]], out: &mut [u8]) {
+    let mut so_far = start;
     let mut turns = u64::MAX;
-    while turns > 0 && d.going {
-        d = turn(d, buf, out);
+    while turns > 0 && so_far.going {
+        so_far = turn(so_far, plain, buf, list, out);
         turns -= 1;
     }
 }
 
+// What the command line asks for.
+enum Asked {
+    Quick,
+    Plain,
+    Usage,
+}
+
+fn is_plain(word: &[u8]) -> bool {
+    let plain = b"--plain";
+    word.len() == plain.len() && begins_with(plain, word)
+}
+
+fn hear() -> Asked {
+    let mut word = io::buffer();
+    let count = os::arg_count();
+    if count < 2 {
+        return Asked::Quick;
+    }
+    let n = os::arg(1, &mut word);
+    if count == 2 && is_plain(part(&word, 0, n)) {
+        return Asked::Plain;
+    }
+    Asked::Usage
+}
+
 fn main() {
+    let asked = hear();
+    let plain = match asked {
+        Asked::Quick => false,
+        Asked::Plain => true,
+        Asked::Usage => {
+            complain(b"usage: daysheet [--plain]\n");
+            return;
+        }
+    };
     let mut buf = [0u8; 65536];
     let mut out = [0u8; 65536];
+    let mut list = [[0u32; 4]; MOST_ARRIVALS];
     if !print(b"sheet=1\n", 8) {
         return;
     }
     let session = begun();
-    let day = Day {
+    let recorder = Recorder {
         session,
+        kept: 0,
         count: 1,
-        unread: 0,
+    };
+    let start = Progress {
+        recorder,
+        from: 0,
+        end: 0,
         closed: false,
         going: true,
     };
-    run(day, &mut buf, &mut out);
+    run(start, plain, &mut buf, &mut list, &mut out);
 }

@@ -12,6 +12,17 @@ use Rattle.session.specs.State.{last}
 use Rattle.sheet.specs.declared.line.Said.{Said}
 use Rattle.sheet.specs.declared.line.Said.the-variants as said
 
+-- the kinds in numbers
+unfoldable pub kindNumber : Kind → ℕ
+kindNumber Logon = 0
+kindNumber Business = 1
+kindNumber GapFill = 2
+kindNumber Reset = 3
+
+-- a line in four numbers
+unfoldable pub numbersIn : Line → List ℕ
+numbersIn l = kindNumber (l .kind) ∷ l .n ∷ l .dup ∷ l .new ∷ []
+
 -- s begins with these bytes
 unfoldable pub begins : List ℕ → List ℕ → Bool
 begins [] s = true

@@ -26,14 +26,26 @@ sendName (send.GapFill n new) = spelled "none"
 sendName (send.ResendRequest n start end) = spelled "resend"
 
 -- the row, its first and last number, E, and what is sent
-unfoldable pub printed : Stepped → List ℕ
-printed t =
-    spelled "row=" ++ (rowName (t .answer .row) ++ (
-    spelled " first=" ++ (numberText (firstOf (t .answer .row)) ++ (
-    spelled " last=" ++ (numberText (lastOf (t .answer .row)) ++ (
-    spelled " next=" ++ (numberText (t .session .expected) ++ (
-    spelled " out=" ++ (sendName (t .answer .first) ++ 10 ∷ [])))))))))
+unfoldable pub lineText : Row → ℕ → Send → List ℕ
+lineText row next send =
+    spelled "row=" ++ (rowName row ++ (
+    spelled " first=" ++ (numberText (firstOf row) ++ (
+    spelled " last=" ++ (numberText (lastOf row) ++ (
+    spelled " next=" ++ (numberText next ++ (
+    spelled " out=" ++ (sendName send ++ 10 ∷ [])))))))))
 
--- a bad line, by its number from 1
+-- of a step
+unfoldable pub printed : Stepped → List ℕ
+printed t = lineText (t .answer .row) (t .session .expected) (t .answer .first)
+
+-- a line by its number from 1
+unfoldable pub countedText : List ℕ → ℕ → List ℕ
+countedText label k = label ++ (numberText k ++ 10 ∷ [])
+
+-- a bad line
 unfoldable pub printedBad : ℕ → List ℕ
-printedBad k = spelled "bad=" ++ (numberText k ++ 10 ∷ [])
+printedBad k = countedText (spelled "bad=") k
+
+-- a line that finds the list of the plain recorder full (document 02, item 11): it is refused with 41
+unfoldable pub printedFull : ℕ → List ℕ
+printedFull k = countedText (spelled "refused=41 line=") k

@@ -3,7 +3,7 @@ use session::state::LAST;
 ghost use mathlib.Core.Path.{_≡_};
 ghost use Prim.Native.Nat.{_≤_};
 ghost use Rattle.wire.specs.Spelled.{spelled};
-ghost use Rattle.sheet.specs.Line.{begins, after, isDigit, number, mostNew, lineOf, numbersOf, saidOf};
+ghost use Rattle.sheet.specs.Line.{numbersIn, begins, after, isDigit, number, mostNew, lineOf, numbersOf, saidOf};
 ghost use Rattle.sheet.specs.Capped.{withDigit, NumberRead};
 
 // The most that a number of a message can be.
@@ -26,6 +26,30 @@ pub struct Line {
     pub new: u32,
 }
 
+// The kinds in numbers.
+pub const LOGON: u32 = 0;
+
+pub const BUSINESS: u32 = 1;
+
+pub const GAP_FILL: u32 = 2;
+
+pub const RESET: u32 = 3;
+
+impl Line {
+    // The line in four numbers: its kind's, n, dup and new.
+    pub fn numbers(self) -> [u32; 4]
+        ensures { λ r. ⌜ r ≡ numbersIn self ⌝ }
+    {
+        let kind = self.kind;
+        match kind {
+            Kind::Logon => [LOGON, self.n, self.dup, self.new],
+            Kind::Business => [BUSINESS, self.n, self.dup, self.new],
+            Kind::GapFill => [GAP_FILL, self.n, self.dup, self.new],
+            Kind::Reset => [RESET, self.n, self.dup, self.new],
+        }
+    }
+}
+
 // What a line says.
 pub enum Said {
     Line(Line),
@@ -38,7 +62,8 @@ struct Number {
     digits: usize,
 }
 
-fn begins_with(w: &[u8], s: &[u8]) -> bool
+// Whether s begins with w.
+pub fn begins_with(w: &[u8], s: &[u8]) -> bool
     ensures { λ r. ⌜ r ≡ begins (now (w .entry)) (now (s .entry)) ⌝ }
 {
     let mut i = 0;

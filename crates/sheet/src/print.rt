@@ -14,7 +14,7 @@ ghost use lib.ListN.{length, take};
 ghost use Rattle.wire.specs.Spelled.{spelled};
 ghost use Rattle.wire.specs.Laying.{laid, laidAnswer};
 ghost use Rattle.spelt.specs.Spelt.{numberText};
-ghost use Rattle.sheet.specs.Print.{rowName, sendName, printed, printedBad};
+ghost use Rattle.sheet.specs.Print.{rowName, sendName, lineText, printed, countedText, printedBad, printedFull};
 
 // The bytes w behind the first `at` of d; where the next begin.
 fn put(d: &mut [u8], at: usize, w: &[u8]) -> usize
@@ -68,16 +68,11 @@ fn put_out(d: &mut [u8], at: usize, send: Send) -> usize
     }
 }
 
-// The line of a step at the front of d: its length.
-fn line(d: &mut [u8], t: Stepped) -> usize
+// The line of a row, of E and of what is sent at the front of d: its length.
+fn line(d: &mut [u8], row: Row, next: u32, send: Send) -> usize
     requires { ⌜ 128 ≤ length (now d) ⌝ }
-    ensures { λ r. ⌜ (r ≤ 128) × (take r (now (d .exit)) ≡ printed t) ⌝ }
+    ensures { λ r. ⌜ (r ≤ 128) × (take r (now (d .exit)) ≡ lineText row next send) ⌝ }
 {
-    let session = t.session;
-    let answer = t.answer;
-    let row = answer.row;
-    let send = answer.first;
-    let next = session.expected();
     let first = first_of(row);
     let last = last_of(row);
     let p = put_row(d, row);
@@ -87,29 +82,56 @@ fn line(d: &mut [u8], t: Stepped) -> usize
     put_out(d, p, send)
 }
 
-// The line of a bad line, by its number: its length.
-fn bad_line(d: &mut [u8], k: u64) -> usize
-    requires { ⌜ 128 ≤ length (now d) ⌝ }
-    ensures { λ r. ⌜ (r ≤ 128) × (take r (now (d .exit)) ≡ printedBad k) ⌝ }
+// A label, a line's number and the line end at the front of d: their length.
+fn counted(d: &mut [u8], label: &[u8], k: u64) -> usize
+    requires { ⌜ (128 ≤ length (now d)) × (length (now label) ≤ 64) ⌝ }
+    ensures { λ r. ⌜ (r ≤ 128) × (take r (now (d .exit)) ≡ countedText (now (label .entry)) k) ⌝ }
 {
-    let p = put_field(d, 0, b"bad=", k);
+    let p = put_field(d, 0, label, k);
     put(d, p, b"\n")
 }
 
-// The line of a step at the front of a lent buffer.
-pub(crate) fn put_printed(d: &mut [u8], t: Stepped) -> Laid
-    ensures { λ r. ⌜ (r ≡ laidAnswer (printed t) (now (d .entry))) × (now (d .exit) ≡ laid (printed t) (now (d .entry))) ⌝ }
+// The line of a row, of E and of what is sent at the front of a lent buffer.
+pub fn put_line(d: &mut [u8], row: Row, next: u32, send: Send) -> Laid
+    ensures { λ r. ⌜ (r ≡ laidAnswer (lineText row next send) (now (d .entry))) × (now (d .exit) ≡ laid (lineText row next send) (now (d .entry))) ⌝ }
 {
     let mut text = [0u8; 128];
-    let n = line(&mut text, t);
+    let n = line(&mut text, row, next, send);
     put_bytes(d, &text[..n])
 }
 
-// The line of a bad line at the front of a lent buffer.
+// The line of a step.
+pub(crate) fn put_printed(d: &mut [u8], t: Stepped) -> Laid
+    ensures { λ r. ⌜ (r ≡ laidAnswer (printed t) (now (d .entry))) × (now (d .exit) ≡ laid (printed t) (now (d .entry))) ⌝ }
+{
+    let session = t.session;
+    let answer = t.answer;
+    let row = answer.row;
+    let send = answer.first;
+    put_line(d, row, session.expected(), send)
+}
+
+// The same at the front of a lent buffer.
+fn put_counted(d: &mut [u8], label: &[u8], k: u64) -> Laid
+    requires { ⌜ length (now label) ≤ 64 ⌝ }
+    ensures { λ r. ⌜ r ≡ laidAnswer (countedText (now (label .entry)) k) (now (d .entry)) ⌝ }
+    ensures { λ _. ⌜ now (d .exit) ≡ laid (countedText (now (label .entry)) k) (now (d .entry)) ⌝ }
+{
+    let mut text = [0u8; 128];
+    let n = counted(&mut text, label, k);
+    put_bytes(d, &text[..n])
+}
+
+// The line of a bad line, by its number.
 pub fn put_bad(d: &mut [u8], k: u64) -> Laid
     ensures { λ r. ⌜ (r ≡ laidAnswer (printedBad k) (now (d .entry))) × (now (d .exit) ≡ laid (printedBad k) (now (d .entry))) ⌝ }
 {
-    let mut text = [0u8; 128];
-    let n = bad_line(&mut text, k);
-    put_bytes(d, &text[..n])
+    put_counted(d, b"bad=", k)
+}
+
+// The line of one that a full list has no room for, by its number (document 02, item 11).
+pub fn put_full(d: &mut [u8], k: u64) -> Laid
+    ensures { λ r. ⌜ (r ≡ laidAnswer (printedFull k) (now (d .entry))) × (now (d .exit) ≡ laid (printedFull k) (now (d .entry))) ⌝ }
+{
+    put_counted(d, b"refused=41 line=", k)
 }

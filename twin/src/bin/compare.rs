@@ -18,6 +18,7 @@ use std::io::Write;
 use std::ops::RangeInclusive;
 use std::process::{exit, Command, Output, Stdio};
 use std::time::{Duration, Instant};
+use twin::daysheet::{self, LIST_FULL, MOST_KEPT};
 use twin::gateway::{self, is_business, Wrong};
 use twin::make::{self, Cut, Event, Given, Rng, Sent, Text};
 use twin::plan::{A_PAIR, LONGEST_PLAN};
@@ -29,7 +30,7 @@ use twin::session::{ROWS_A_STEP, ROW_PLACE, ROW_SORT, SENDS_A_STEP};
 use twin::tables::{self, types};
 use twin::wire::{self, Allowed, Refusal, BODY_AT, MAP_WIDTH, TRAILER};
 use twin::writer::{self, HeadValues, ToWrite};
-use twin::{crc, daysheet, plain, plan};
+use twin::{crc, plain, plan};
 
 const NOT_A_SESSION: u32 = 90;
 
@@ -39,7 +40,7 @@ const ENOUGH: u32 = 10;
 // ---- Counting ----
 
 /// The categories, with their parts of a hundred of the random comparisons.
-const CATEGORIES: [(&str, u64); 18] = [
+const CATEGORIES: [(&str, u64); 19] = [
     ("short inputs", 6),
     ("valid messages", 19),
     ("writes, good and bad", 6),
@@ -57,6 +58,7 @@ const CATEGORIES: [(&str, u64); 18] = [
     ("texts, every character", 0),
     ("version", 0),
     ("daysheet", 0),
+    ("plain sheets", 0),
     ("both ends meet, bench", 0),
 ];
 
@@ -3407,15 +3409,17 @@ fn sheet(rng: &mut Rng) -> Vec<u8> {
     text
 }
 
-/// A day of ten thousand lines: several times what the program's buffer holds.
-fn long_sheet() -> Vec<u8> {
+/// A day of so many good lines.
+fn long_sheet(count: usize) -> Vec<u8> {
     let mut text = String::from("kind=logon n=1 dup=0 new=0\n");
-    for n in 2..=10_000 {
+    for n in 2..=count {
         text += &format!("kind=business n={} dup=0 new=0\n", n);
     }
     text.into_bytes()
 }
 
+/// Sheets for the program without a word and, as the next category, the same ones
+/// with `--plain`.
 fn daysheets(tally: &mut Tally, rng: &mut Rng, command: &str, count: u64) {
     let command: Vec<&str> = command.split_whitespace().collect();
     let example = b"kind=logon n=1 dup=0 new=0
@@ -3425,14 +3429,31 @@ kind=gapfill n=3 dup=1 new=5
 kind=business n=5 dup=1 new=0
 kind=business n=2 dup=1 new=0
 ";
-    let with_holes = make::SHEET_WITH_HOLES.to_vec();
-    let mut given = vec![long_sheet(), with_holes, example.to_vec()];
-    for _ in 0..count {
-        let text = given.pop().unwrap_or_else(|| sheet(rng));
-        let twin = String::from_utf8_lossy(&daysheet::daysheet(&text)).into_owned();
-        let output = printed(&command, &text, Stdio::inherit());
-        let proved = String::from_utf8_lossy(&output.stdout).into_owned();
-        tally.hold(0, twin, proved, || format!("daysheet {}", hex(&text)));
+    let full = long_sheet(MOST_KEPT);
+    let mut sheets = vec![
+        example.to_vec(),
+        make::SHEET_WITH_HOLES.to_vec(),
+        // Several times what the program's buffer holds, and more lines than the
+        // plain recorder keeps.
+        long_sheet(10_000),
+        // As many as it keeps, alone and before a bad line.
+        full.clone(),
+        [&full[..], b"no\n"].concat(),
+    ];
+    sheets.resize_with(count as usize, || sheet(rng));
+    type Print = fn(&[u8]) -> Vec<u8>;
+    let ways: [(&[&str], Print); 2] = [(&[], daysheet::daysheet), (&["--plain"], daysheet::plain)];
+    for (category, (words, print)) in (tally.category..).zip(ways) {
+        tally.category = category;
+        let command = [&command[..], words].concat();
+        for text in &sheets {
+            let twin = String::from_utf8_lossy(&print(text)).into_owned();
+            let is_full = twin.contains("refused=");
+            let refusal = if is_full { LIST_FULL } else { 0 };
+            let output = printed(&command, text, Stdio::inherit());
+            let proved = String::from_utf8_lossy(&output.stdout).into_owned();
+            tally.hold(refusal, twin, proved, || format!("daysheet {}", hex(text)));
+        }
     }
 }
 
@@ -3784,7 +3805,7 @@ fn main() {
     let options = options();
     println!("compare: seed {}", options.seed);
     let mut tally = Tally::new();
-    let runs: [fn(&mut Tally, &mut Rng, u64); CATEGORIES.len() - 2] = [
+    let runs: [fn(&mut Tally, &mut Rng, u64); CATEGORIES.len() - 3] = [
         short_inputs,
         valid_messages,
         writes,
@@ -3820,7 +3841,7 @@ fn main() {
         Some(command) => daysheets(&mut tally, &mut rng(runs.len()), command, options.sheets),
         None => println!("daysheet: skipped, --daysheet \"COMMAND..\" is not given"),
     }
-    tally.category += 1;
+    tally.category = CATEGORIES.len() - 1;
     match &options.bench {
         Some(command) => {
             let mut rng = rng(tally.category);

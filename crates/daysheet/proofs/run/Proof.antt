@@ -1,4 +1,4 @@
--- `daysheet::run` is safe and ends: the invariant is that the buffers keep their lengths.
+-- `daysheet::run` is safe and ends: the invariant is that what is lent keeps its lengths.
 use mathlib.Core.Path.{_≡_, refl}
 use lib.ListN.{length}
 use borrow.Author.Needs.{needs}
@@ -6,13 +6,14 @@ use Rattle.daysheet.proofs.run.Statement.{statement}
 use Rattle.daysheet.proofs.run.Tie as tie
 
 abbrev Inv-loop : tie.InvT-loop
-Inv-loop buf₀ out₀ d₀ turns₀ buf out d turns = (length buf ≡ length buf₀) × (length out ≡ length out₀)
+Inv-loop plain buf₀ list₀ out₀ so-far₀ turns₀ buf list out so-far turns =
+    (length buf ≡ length buf₀) × (length list ≡ length list₀) × (length out ≡ length out₀)
 
 abbrev μ-loop : tie.MeasureT-loop
-μ-loop buf₀ out₀ d₀ turns₀ buf out d turns = turns
+μ-loop plain buf₀ list₀ out₀ so-far₀ turns₀ buf list out so-far turns = turns
 
 loop-holds : tie.Need-loop-holds Inv-loop μ-loop
-loop-holds c = (refl, refl)
+loop-holds c = (refl, refl, refl)
 
 turn-requires : tie.Need-turn-requires Inv-loop μ-loop
 turn-requires c κs = search needs
@@ -32,14 +33,20 @@ same-length c = search needs
 same-length-2 : tie.Need-same-length-2 Inv-loop μ-loop
 same-length-2 c = search needs
 
-returns : tie.Need-returns Inv-loop μ-loop
-returns c = search needs
-
 same-length-3 : tie.Need-same-length-3 Inv-loop μ-loop
 same-length-3 c = search needs
 
+returns : tie.Need-returns Inv-loop μ-loop
+returns c = search needs
+
 same-length-4 : tie.Need-same-length-4 Inv-loop μ-loop
 same-length-4 c = search needs
+
+same-length-5 : tie.Need-same-length-5 Inv-loop μ-loop
+same-length-5 c = search needs
+
+same-length-6 : tie.Need-same-length-6 Inv-loop μ-loop
+same-length-6 c = search needs
 
 returns-2 : tie.Need-returns-2 Inv-loop μ-loop
 returns-2 c = search needs
@@ -57,7 +64,9 @@ run-spec =
     loop-again
     same-length
     same-length-2
-    returns
     same-length-3
+    returns
     same-length-4
+    same-length-5
+    same-length-6
     returns-2)

@@ -6,14 +6,11 @@ use mathlib.Core.List.{List, [], _∷_, _++_}
 use Rattle.wire.specs.Spelled.{spelled}
 use Rattle.session.specs.State.{firstOf, lastOf}
 use Rattle.spelt.specs.Spelt.{numberText}
-use Rattle.sheet.specs.Print.{rowName, sendName, printed}
+use Rattle.sheet.specs.Print.{rowName, sendName, lineText}
 use Rattle.sheet.proofs.PrintLaws.{in-order}
 use borrow.Author.Needs.{needs}
 use Rattle.sheet.proofs.print.line.Statement.{statement}
 use Rattle.sheet.proofs.print.line.Tie as tie
-
-expected-requires : tie.Need-expected-requires
-expected-requires c κs = search needs
 
 first-of-requires : tie.Need-first-of-requires
 first-of-requires c κs = search needs
@@ -45,9 +42,6 @@ put-field-requires-2 c κs = search needs
 slice-aggregate-put-field-3 : tie.Need-slice-aggregate-put-field-3
 slice-aggregate-put-field-3 c = search needs
 
-cast-put-field-3 : tie.Need-cast-put-field-3
-cast-put-field-3 c = search needs
-
 put-field-requires-3 : tie.Need-put-field-requires-3
 put-field-requires-3 c κs = search needs
 
@@ -58,30 +52,28 @@ same-length : tie.Need-same-length
 same-length c = search needs
 
 returns : tie.Need-returns
-unfolding spelled printed
+unfolding spelled lineText
 returns c =
-    let t = c .before .before .before .before .before .before .before .before .before .before .before .before .before .before .before .before .before .before .before .before .before .before .before .before .before .before .before .before .before .args .t in
-    let row = t .answer .row in
+    let a = c .before .before .before .before .before .before .before .before .before .before .before .before .before .before .before .before .before .before .before .before .before .before .before .before .before .before .args in
     let n = c .before .before .before .before .before .before .before .before .before .before .before .before .before .before .before .before .before .before .before .before .before .put-row in
     let f = c .before .before .before .before .before .before .before .before .before .before .before .before .before .before .before .before .put-field in
     let g = c .before .before .before .before .before .before .before .before .before .before .before .put-field2 in
     let h = c .before .before .before .before .before .before .put-field3 in
     let o = c .before .before .put-out in
-    let out : List ℕ = spelled " out=" ++ (sendName (t .answer .first) ++ 10 ∷ []) in (
+    let out : List ℕ = spelled " out=" ++ (sendName (a .send) ++ 10 ∷ []) in (
       omega (arith, n .ensures .0, f .ensures .0, g .ensures .0, h .ensures .0, o .ensures .0),
       o .ensures .1
           ∙ ap (λ (x : List ℕ). x ++ out) (h .ensures .1)
-          ∙ ap₂ (λ (x : List ℕ) (k : ℕ). ((x ++ spelled " next=") ++ numberText k) ++ out) (g .ensures .1) (c .before .before .before .before .before .before .before .before .before .before .before .before .before .before .before .before .before .before .before .before .before .before .before .before .before .expected .ensures)
-          ∙ ap₂ (λ (x : List ℕ) (k : ℕ). ((((x ++ spelled " last=") ++ numberText k) ++ spelled " next=") ++ numberText (t .session .expected)) ++ out) (f .ensures .1) (c .before .before .before .before .before .before .before .before .before .before .before .before .before .before .before .before .before .before .before .before .before .before .before .last-of .ensures)
-          ∙ ap₂ (λ (x : List ℕ) (k : ℕ). ((((((x ++ spelled " first=") ++ numberText k) ++ spelled " last=") ++ numberText (lastOf row)) ++ spelled " next=") ++ numberText (t .session .expected)) ++ out) (n .ensures .1) (c .before .before .before .before .before .before .before .before .before .before .before .before .before .before .before .before .before .before .before .before .before .before .before .before .first-of .ensures)
-          ∙ in-order (spelled "row=") (rowName row) (spelled " first=") (numberText (firstOf row)) (spelled " last=") (numberText (lastOf row)) (spelled " next=") (numberText (t .session .expected)) out,
+          ∙ ap (λ (x : List ℕ). ((x ++ spelled " next=") ++ numberText (a .next)) ++ out) (g .ensures .1)
+          ∙ ap₂ (λ (x : List ℕ) (k : ℕ). ((((x ++ spelled " last=") ++ numberText k) ++ spelled " next=") ++ numberText (a .next)) ++ out) (f .ensures .1) (c .before .before .before .before .before .before .before .before .before .before .before .before .before .before .before .before .before .before .before .before .before .before .before .last-of .ensures)
+          ∙ ap₂ (λ (x : List ℕ) (k : ℕ). ((((((x ++ spelled " first=") ++ numberText k) ++ spelled " last=") ++ numberText (lastOf (a .row))) ++ spelled " next=") ++ numberText (a .next)) ++ out) (n .ensures .1) (c .before .before .before .before .before .before .before .before .before .before .before .before .before .before .before .before .before .before .before .before .before .before .before .before .first-of .ensures)
+          ∙ in-order (spelled "row=") (rowName (a .row)) (spelled " first=") (numberText (firstOf (a .row))) (spelled " last=") (numberText (lastOf (a .row))) (spelled " next=") (numberText (a .next)) out,
     )
 
 pub line-spec : {M : Type 1} → statement M
 line-spec =
     tie.close
     (tie.spec
-    expected-requires
     first-of-requires
     last-of-requires
     put-row-requires
@@ -92,7 +84,6 @@ line-spec =
     cast-put-field-2
     put-field-requires-2
     slice-aggregate-put-field-3
-    cast-put-field-3
     put-field-requires-3
     put-out-requires
     same-length

@@ -1,0 +1,4 @@
+pub mod ListLaws
+pub mod RuleLaws
+pub mod SameLaws
+pub mod WalkLaws
