@@ -1476,3 +1476,12 @@ pub fn sheet(rng: &mut Rng, count: usize) -> Vec<u8> {
     }
     text
 }
+
+/// A day of so many good lines for daysheet: a logon, and business in its turn.
+pub fn long_sheet(count: usize) -> Vec<u8> {
+    let mut text = String::from("kind=logon n=1 dup=0 new=0\n");
+    for n in 2..=count {
+        text += &format!("kind=business n={} dup=0 new=0\n", n);
+    }
+    text.into_bytes()
+}

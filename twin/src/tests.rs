@@ -463,15 +463,6 @@ fn both_recorders_print_the_same_on_random_sheets() {
     }
 }
 
-/// A day of so many good lines.
-fn long_day(count: usize) -> Vec<u8> {
-    let mut text = String::from("kind=logon n=1 dup=0 new=0\n");
-    for n in 2..=count {
-        text += &format!("kind=business n={} dup=0 new=0\n", n);
-    }
-    text.into_bytes()
-}
-
 /// What both print for as many lines as the list holds, and one line more of the
 /// plain recorder's.
 fn printed_of_a_full_list(full: &[u8], last: &str) -> Vec<u8> {
@@ -484,17 +475,17 @@ fn printed_of_a_full_list(full: &[u8], last: &str) -> Vec<u8> {
 #[test]
 fn the_plain_recorder_takes_4096_lines_and_refuses_the_next() {
     assert_eq!((MOST_KEPT, LIST_FULL), (4_096, 41));
-    let full = long_day(4_096);
+    let full = make::long_sheet(4_096);
     let unended = &full[..full.len() - 1];
     assert_eq!(printed_by_both(unended), printed_by_both(&full));
     let refused = printed_of_a_full_list(&full, "refused=41 line=4097\n");
     for count in [4_097, 4_098, 10_000] {
-        let text = long_day(count);
+        let text = make::long_sheet(count);
         assert_eq!(daysheet::plain(&text), refused);
         assert!(daysheet(&text).len() > refused.len());
     }
     // Nothing behind the refused line is read, not even a bad one.
-    let text = [&long_day(4_097)[..], b"no\n"].concat();
+    let text = [&make::long_sheet(4_097)[..], b"no\n"].concat();
     assert_eq!(daysheet::plain(&text), refused);
 }
 
@@ -510,7 +501,7 @@ fn the_plain_recorder_keeps_lines_after_a_stop() {
 
 #[test]
 fn the_plain_recorder_reads_a_line_before_it_asks_for_room() {
-    let full = long_day(4_096);
+    let full = make::long_sheet(4_096);
     let bad = printed_of_a_full_list(&full, "bad=4097\n");
     for line in ["no\n", "\n", "kind=business n=4097 dup=2 new=0"] {
         let text = [&full[..], line.as_bytes()].concat();

@@ -25,12 +25,18 @@ use sheet::sheet::End;
 use sheet::sheet::begun;
 use sheet::sheet::take_lines;
 use spelt::line_length;
+use wire::laying::Laid;
 ghost use mathlib.Core.Path.{_≡_};
 ghost use Prim.Native.Nat.{_-_, _≤_};
 ghost use lib.ListN.{length, take, drop};
+ghost use Rattle.wire.specs.Laying.{laid, laidAnswer};
+ghost use Rattle.sheet.specs.Print.{lineText};
+ghost use Rattle.plain.specs.Both.{expectedIn};
 
-// The recorder: the quick one's session, how many arrivals the plain one has kept, and the next line's number.
+// Whether the plain recorder answers; the quick one's session, how many arrivals the plain one has kept, and the next line's
+// number. (An enum of the two is not to be had: it would hold a session's array.)
 struct Recorder {
+    plain: bool,
     session: Session,
     kept: usize,
     count: u64,
@@ -67,6 +73,7 @@ impl Recorder {
         let session = self.session;
         let count = self.count;
         let recorder = Recorder {
+            plain: true,
             session,
             kept,
             count: if count < u64::MAX { count + 1 } else { count },
@@ -186,6 +193,7 @@ fn quick(recorder: Recorder, s: &[u8], out: &mut [u8]) -> Took {
         End::BadLine => Next::Nothing,
     };
     let recorder = Recorder {
+        plain: false,
         session,
         kept: 0,
         count: taken.count,
@@ -199,7 +207,9 @@ fn quick(recorder: Recorder, s: &[u8], out: &mut [u8]) -> Took {
 }
 
 // E.
-fn expected(day: Day) -> u32 {
+fn expected(day: Day) -> u32
+    ensures { λ r. ⌜ r ≡ expectedIn day ⌝ }
+{
     match day {
         Day::Down(e, _) => e,
         Day::Waiting(e, _) => e,
@@ -207,13 +217,15 @@ fn expected(day: Day) -> u32 {
     }
 }
 
-// The line of the plain recorder's answer: its length.
-fn tell(told: Told, out: &mut [u8]) -> usize {
+// The line of the plain recorder's answer.
+fn tell(told: Told, out: &mut [u8]) -> Laid
+    ensures { λ r. ⌜ r ≡ laidAnswer (lineText (told .row) (expectedIn (told .day)) (told .send)) (now (out .entry)) ⌝ }
+    ensures { λ _. ⌜ now (out .exit) ≡ laid (lineText (told .row) (expectedIn (told .day)) (told .send)) (now (out .entry)) ⌝ }
+{
     let day = told.day;
     let row = told.row;
     let send = told.send;
-    let laid = put_line(out, row, expected(day), send);
-    laid.besides()
+    put_line(out, row, expected(day), send)
 }
 
 // The plain recorder takes a line of so many bytes. One that its list has no room for is the last, as a bad one is.
@@ -228,8 +240,8 @@ fn keep(
     let arrived = arrive(list, kept, line);
     match arrived {
         Arrived::Kept(count, told) => {
-            let written = tell(told, out);
-            recorder.took(count, used, written, Next::Lines)
+            let laid = tell(told, out);
+            recorder.took(count, used, laid.besides(), Next::Lines)
         }
         Arrived::Full => {
             let laid = put_full(out, recorder.count);
@@ -297,15 +309,9 @@ fn on(so_far: Progress, took: Took, buf: &mut [u8], out: &mut [u8]) -> Progress 
 }
 
 // One turn: lines of the buffer, and then more input.
-fn turn(
-    so_far: Progress,
-    plain: bool,
-    buf: &mut [u8],
-    list: &mut [[u32; 4]],
-    out: &mut [u8],
-) -> Progress {
+fn turn(so_far: Progress, buf: &mut [u8], list: &mut [[u32; 4]], out: &mut [u8]) -> Progress {
     let recorder = so_far.recorder;
-    if plain {
+    if recorder.plain {
         let took = plainly(recorder, part(buf, so_far.from, so_far.end), list, out);
         return on(so_far, took, buf, out);
     }
@@ -314,11 +320,11 @@ fn turn(
 }
 
 // A proved loop ends, and nothing says that the input does: turns are counted down from a number that no run uses up.
-fn run(start: Progress, plain: bool, buf: &mut [u8], list: &mut [[u32; 4]], out: &mut [u8]) {
+fn run(start: Progress, buf: &mut [u8], list: &mut [[u32; 4]], out: &mut [u8]) {
     let mut so_far = start;
     let mut turns = u64::MAX;
     while turns > 0 && so_far.going {
-        so_far = turn(so_far, plain, buf, list, out);
+        so_far = turn(so_far, buf, list, out);
         turns -= 1;
     }
 }
@@ -366,6 +372,7 @@ fn main() {
     }
     let session = begun();
     let recorder = Recorder {
+        plain,
         session,
         kept: 0,
         count: 1,
@@ -377,5 +384,5 @@ fn main() {
         closed: false,
         going: true,
     };
-    run(start, plain, &mut buf, &mut list, &mut out);
+    run(start, &mut buf, &mut list, &mut out);
 }

@@ -1,4 +1,5 @@
 pub mod ListLaws
+pub mod PrintedLaws
 pub mod RuleLaws
 pub mod SameLaws
 pub mod WalkLaws

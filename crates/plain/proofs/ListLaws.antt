@@ -18,7 +18,7 @@ use Rattle.sheet.specs.Line.{kindNumber, numbersIn}
 use Rattle.plain.specs.declared.Arrived.the-variants.{Kept, Full}
 use Rattle.plain.specs.Both.{listFrom}
 use Rattle.plain.specs.Plain.{workedOut}
-use Rattle.plain.specs.Arrivals.{kindAt, lineOf, linesIn, isFull, listAfter, arrived, arrivedNumber}
+use Rattle.plain.specs.Arrivals.{mostArrivals, kindAt, lineIn, linesIn, isFull, listAfter, arrived, arrivedNumber}
 
 -- 41 changes nothing
 pub full-nothing : (list : List (List ℕ)) (count : ℕ) (l : Line) → isFull list count ≡ true → (arrived list count l ≡ Full) × (listAfter list count l ≡ list)
@@ -35,23 +35,23 @@ refused-full list count l = go (isFull list count)
     go false = refl
 
 -- it is full with 4,096, and where there is no room for one more
-pub is-full : (list : List (List ℕ)) (count : ℕ) → 4096 ≤ count → isFull list count ≡ true
+pub is-full : (list : List (List ℕ)) (count : ℕ) → mostArrivals ≤ count → isFull list count ≡ true
 unfolding isFull
-is-full list count h = rw (le-leb 4096 count h)
+is-full list count h = rw (le-leb mostArrivals count h)
 
 pub has-none : (list : List (List ℕ)) (count : ℕ) → length list ≤ count → isFull list count ≡ true
 unfolding isFull
-has-none list count h = either (λ (b : Bool). b ≡ true) (leb 4096 count) (λ t. refl) (λ t. le-leb (length list) count h)
+has-none list count h = either (λ (b : Bool). b ≡ true) (leb mostArrivals count) (λ t. refl) (λ t. le-leb (length list) count h)
 
 -- there is room for one more
-pub has-room : (list : List (List ℕ)) (count : ℕ) → count < 4096 → count < length list → isFull list count ≡ false
+pub has-room : (list : List (List ℕ)) (count : ℕ) → count < mostArrivals → count < length list → isFull list count ≡ false
 unfolding isFull
-has-room list count h r = rw (lt-leb 4096 count h, lt-leb (length list) count r)
+has-room list count h r = rw (lt-leb mostArrivals count h, lt-leb (length list) count r)
 
 room-within : (list : List (List ℕ)) (count : ℕ) → isFull list count ≡ false → count < length list
 unfolding isFull
 room-within list count =
-    either (λ (b : Bool). b ≡ false → count < length list) (leb 4096 count) (λ t h. absurd (true≢false h)) (λ t h. leb-false (length list) count h)
+    either (λ (b : Bool). b ≡ false → count < length list) (leb mostArrivals count) (λ t h. absurd (true≢false h)) (λ t h. leb-false (length list) count h)
 
 kind-back : (k : Kind) → kindAt (kindNumber k) ≡ k
 unfolding kindAt kindNumber
@@ -61,7 +61,7 @@ kind-back GapFill = refl
 kind-back Reset = refl
 
 -- a line is what its four numbers say
-pub line-back : (l : Line) → lineOf (kindNumber (l .kind)) (l .n) (l .dup) (l .new) ≡ l
+line-back : (l : Line) → lineIn (kindNumber (l .kind)) (l .n) (l .dup) (l .new) ≡ l
 line-back l = ap (λ (k : Kind). record { kind = k; n = l .n; dup = l .dup; new = l .new }) (kind-back (l .kind))
 
 lines-then : (list : List (List ℕ)) (l : Line) → linesIn (list ++ numbersIn l ∷ []) ≡ linesIn list ++ l ∷ []
@@ -89,7 +89,7 @@ unfolding listFrom
 from-length list count [] = refl
 from-length list count (l ∷ ls) = from-length (listAfter list count l) (count + 1) ls ∙ after-length list count l
 
-holds-from : (list : List (List ℕ)) (count : ℕ) (ls : List Line) → count + length ls ≤ 4096 → count + length ls ≤ length list
+holds-from : (list : List (List ℕ)) (count : ℕ) (ls : List Line) → count + length ls ≤ mostArrivals → count + length ls ≤ length list
     → linesIn (take (count + length ls) (listFrom list count ls)) ≡ linesIn (take count list) ++ ls
 unfolding listFrom
 holds-from list count [] h r = rw (add-zero count) (sym (append-nil (linesIn (take count list))))
@@ -102,7 +102,7 @@ holds-from list count (l ∷ ls) h r =
     ∙ append-snoc (linesIn (take count list)) l ls
 
 -- a list that has room holds the lines that arrived, in order
-pub list-holds : (list : List (List ℕ)) (ls : List Line) → length ls ≤ 4096 → length ls ≤ length list
+pub list-holds : (list : List (List ℕ)) (ls : List Line) → length ls ≤ mostArrivals → length ls ≤ length list
     → linesIn (take (length ls) (listFrom list 0 ls)) ≡ ls
 unfolding linesIn
 list-holds list ls h r =

@@ -40,9 +40,9 @@ isStopped e kind new = cond (eqb kind 0) true (cond (eqb kind 3) (ltb new e) fal
 abbrev pub isReset : ℕ → ℕ → ℕ → Bool
 isReset e kind new = cond (eqb kind 3) (ltb e new) false
 
--- a reset by which it does not, or a lower number with PossDup 1
-abbrev pub isIgnored : ℕ → ℕ → ℕ → ℕ → Bool
-isIgnored e kind n dup = cond (eqb kind 3) true (cond (ltb n e) (eqb dup 1) false)
+-- a lower number with PossDup 1
+abbrev pub isIgnored : ℕ → ℕ → ℕ → Bool
+isIgnored e n dup = cond (ltb n e) (eqb dup 1) false
 
 -- what is left to business and a gap fill
 abbrev pub inTurn : ℕ → ℕ → ℕ → ℕ → ℕ → ℕ → ℕ → ℕ → Told
@@ -54,12 +54,18 @@ inTurn e o m repeats kind n dup new =
     cond (ltb n new) (makes o m new (row.Filled n (new - 1)))
     (stop e o)))))
 
+-- a reset by which E stays, and what is left then
+abbrev pub afterReset : ℕ → ℕ → ℕ → ℕ → ℕ → ℕ → ℕ → ℕ → Told
+afterReset e o m repeats kind n dup new =
+    cond (eqb kind 3) (still (Live e o m repeats)) (
+    cond (isIgnored e n dup) (still (Live e o m repeats))
+    (inTurn e o m repeats kind n dup new))
+
 abbrev chain : ℕ → ℕ → ℕ → ℕ → ℕ → ℕ → ℕ → ℕ → Told
 chain e o m repeats kind n dup new =
     cond (isStopped e kind new) (stop e o) (
-    cond (isReset e kind new) (makes o m new (row.Reset e (new - 1))) (
-    cond (isIgnored e kind n dup) (still (Live e o m repeats))
-    (inTurn e o m repeats kind n dup new)))
+    cond (isReset e kind new) (makes o m new (row.Reset e (new - 1)))
+    (afterReset e o m repeats kind n dup new))
 
 pub live-chain : (e o m repeats kind n dup new : ℕ) → live e o m repeats (kindAt kind) n dup new ≡ chain e o m repeats kind n dup new
 unfolding live reset lower gapFill numbered kindAt kindNumber

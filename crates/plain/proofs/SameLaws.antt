@@ -6,7 +6,7 @@ use mathlib.Core.List.{List, [], _∷_, _++_}
 use native.Mathlib.Omega.{arith}
 use lib.Dec.{eqb, ltb, leb}
 use lib.ListN.{length}
-use borrow.Author.Tests.{ltb-true, ltb-false, eqb-true, eqb-false, eq-eqb, ne-eqb, lt-ltb, le-ltb, le-leb, lt-leb}
+use borrow.Author.Tests.{ltb-true, ltb-false, eqb-true, eqb-false, eq-eqb, ne-eqb, le-ltb, le-leb, lt-leb}
 use Rattle.wire.specs.Spelled.{spelled}
 use Rattle.wire.specs.Text.{isCharacter, allCharacters, takes}
 use Rattle.wire.proofs.TestLaws.{either}
@@ -40,7 +40,7 @@ use Rattle.plain.specs.declared.Arrived.the-variants.{Kept}
 use Rattle.plain.specs.declared.Day.{Day}
 use Rattle.plain.specs.declared.Day.the-variants.{Down, Waiting, Live}
 use Rattle.plain.specs.declared.Told.{Told}
-use Rattle.plain.specs.Arrivals.{arrived}
+use Rattle.plain.specs.Arrivals.{mostArrivals, arrived}
 use Rattle.plain.specs.Both.{stepsFrom, quick, sessionOf, Same, listFrom, expectedIn}
 use Rattle.plain.specs.Plain as plain
 use Rattle.plain.proofs.ListLaws.{has-room, from-length, list-holds}
@@ -76,13 +76,9 @@ abbrev standing : State → ℕ → ℕ → ℕ → ℕ → Session
 standing p e o m r = record { state = p; ours = begun .ours; expected = e; own = o; ahead = m; repeats = r }
 
 module _ (p : State) (e o m r : ℕ) where
-  -- Stop: the one looks whether O is the last number, the other whether it is below
-  stop-goes : o ≤ last → (k : Halt) → Goes (plain.stop e o) (stop (standing p e o m r) k)
+  stop-goes : (k : Halt) → Goes (plain.stop e o) (stop (standing p e o m r) k)
   unfolding plain.stop stop leave sessionOf repeatsAt
-  stop-goes h k =
-      apart (eqb o last) (ltb o last)
-      (λ t. (le-ltb o last (omega (arith, eqb-true o last t)), goes refl refl))
-      (λ t. (lt-ltb o last (omega (arith, eqb-false o last t)), goes refl refl))
+  stop-goes k = ways (ltb o last) (λ t. goes refl refl) (λ t. goes refl refl)
 
   repeats-past : (new a : ℕ) → e < new → repeatsAt (standing p e o m r) new a r ≡ 0
   unfolding repeatsAt
@@ -106,12 +102,12 @@ repeats-same s a =
     (λ t. rw (eq-eqb (s .expected) (s .expected) refl) refl)
 
 -- 3 to 9
-module _ (e o m r : ℕ) (h : o ≤ last) (a : Ahead (standing state.Live e o m r)) where
+module _ (e o m r : ℕ) (a : Ahead (standing state.Live e o m r)) where
   abbrev s : Session
   s = standing state.Live e o m r
 
   stops : (k : Halt) → Goes (plain.stop e o) (stop s k)
-  stops = stop-goes state.Live e o m r h
+  stops = stop-goes state.Live e o m r
 
   rises : (new : ℕ) (w : Row) → e < new → Goes (plain.makes o m new w) (take s new o send.Nothing w)
   rises = makes-goes state.Live e o m r
@@ -172,7 +168,7 @@ module _ (e o m r : ℕ) (h : o ≤ last) (a : Ahead (standing state.Live e o m 
 -- 2, while O is 2: Next Expected is neither 0 nor above O, and there is no gap to fill
 module _ (e : ℕ) where
   waits-stop : (k : Halt) → Goes (plain.stop e 2) (stop (standing state.Waiting e 2 0 0) k)
-  waits-stop = stop-goes state.Waiting e 2 0 0 (omega arith)
+  waits-stop = stop-goes state.Waiting e 2 0 0
 
   waiting-goes : (k : Kind) (n new : ℕ) → Goes (plain.waiting e 2 k n) (rules.waiting (standing state.Waiting e 2 0 0) n (contentOf k new))
   unfolding plain.waiting plain.logon rules.waiting rules.logon rules.fillTo contentOf sessionOf repeatsAt
@@ -185,10 +181,9 @@ module _ (e : ℕ) where
   waiting-goes GapFill n new = waits-stop halt.StopType
   waiting-goes Reset n new = waits-stop halt.StopType
 
--- what holds of the day after any lines: M and the count are as they have to be, O is a number of 32 bits, and 2 while it waits
-pub record Fit (d : Day) : Type 0 where
+-- what holds of the day after any lines: M and the count are as they have to be, and O is 2 while it waits
+record Fit (d : Day) : Type 0 where
   pub ahead : Ahead (sessionOf d)
-  pub own : sessionOf d .own ≤ last
   pub waits : isWaiting d ≡ true → sessionOf d .own ≡ 2
 
 line-goes : (d : Day) (l : Line) → Fit d → Goes (plain.ruled d l) (rules.ruled (sessionOf d) (messageOf l))
@@ -197,19 +192,18 @@ line-goes (Down e o) l f = goes refl refl
 line-goes (Waiting e o) l f =
     subst (λ (x : ℕ). Goes (plain.waiting e x (l .kind) (l .n)) (rules.waiting (standing state.Waiting e x 0 0) (l .n) (contentOf (l .kind) (l .new))))
     (sym (f .waits refl)) (waiting-goes e (l .kind) (l .n) (l .new))
-line-goes (Live e o m r) l f = live-goes e o m r (f .own) (f .ahead) (l .kind) (l .n) (l .dup) (l .new)
+line-goes (Live e o m r) l f = live-goes e o m r (f .ahead) (l .kind) (l .n) (l .dup) (l .new)
 
 -- one line: the recorders agree, and the day after it is fit for the next
-pub same-line : (d : Day) (l : Line) → Fit d → Same (plain.ruled d l) (rules.ruled (sessionOf d) (messageOf l))
+same-line : (d : Day) (l : Line) → Fit d → Same (plain.ruled d l) (rules.ruled (sessionOf d) (messageOf l))
 same-line d l f = line-goes d l f .same
 
-pub fit-line : (d : Day) (l : Line) → Fit d → Fit (plain.ruled d l .day)
+fit-line : (d : Day) (l : Line) → Fit d → Fit (plain.ruled d l .day)
 fit-line d l f =
     let g = line-goes d l f in
     let k = ruled-effect (sessionOf d) (messageOf l) .kept in
     record {
       ahead = subst Ahead (g .same .session) (k .ahead (f .ahead));
-      own = subst (λ (s : Session). s .own ≤ last) (g .same .session) (k .bounded (f .own));
       waits = λ w. absurd (true≢false (sym w ∙ g .up));
     }
 
@@ -224,7 +218,7 @@ same-from t u (l ∷ ls) s f =
 
 fit-begun : Fit (Waiting 1 2)
 unfolding sessionOf
-fit-begun = record { ahead = none-ahead (standing state.Waiting 1 2 0 0) refl refl; own = omega arith; waits = λ w. refl }
+fit-begun = record { ahead = none-ahead (standing state.Waiting 1 2 0 0) refl refl; waits = λ w. refl }
 
 same-begun : begun ≡ sessionOf (Waiting 1 2)
 unfolding sessionOf begun connect connectIn fresh day goodCompId spelled takes allCharacters isCharacter widthOf sortOf entry repeatsAt
@@ -237,7 +231,7 @@ same ls =
     same-from (plain.still (Waiting 1 2)) (unmoved begun code.Good) ls (record { session = same-begun; row = refl; first = refl; second = refl }) fit-begun
 
 -- so each arrival is answered as daysheet's session answers it, where the list has room
-pub each-same : (list : List (List ℕ)) (ls : List Line) (l : Line) → length ls < 4096 → length ls < length list
+pub each-same : (list : List (List ℕ)) (ls : List Line) (l : Line) → length ls < mostArrivals → length ls < length list
     → (arrived (listFrom list 0 ls) (length ls) l ≡ Kept (length ls + 1) (plain.workedOut (ls ++ l ∷ [])))
     × Same (plain.workedOut (ls ++ l ∷ [])) (quick (ls ++ l ∷ []))
 unfolding arrived

@@ -10,11 +10,10 @@ use lib.ListN.{length, getD, take, drop, set}
 use lib.Seq.{drop-cons}
 use Rattle.sheet.specs.declared.line.Line.{Line}
 use Rattle.sheet.specs.Line.{numbersIn}
-use Rattle.plain.specs.declared.Arrived.{Arrived}
 use Rattle.plain.specs.declared.Arrived.the-variants.{Kept}
 use Rattle.plain.specs.declared.Day.the-variants.{Waiting}
 use Rattle.plain.specs.declared.Told.{Told}
-use Rattle.plain.specs.Arrivals.{lineOf, linesIn, isFull, listAfter, arrived}
+use Rattle.plain.specs.Arrivals.{lineIn, linesIn, isFull, listAfter, arrived}
 use Rattle.plain.specs.Plain.{still, ruled, follows, workedOut}
 use Rattle.plain.proofs.ListLaws.{arrival-kept}
 
@@ -27,7 +26,7 @@ pub record Walked (list : List (List ℕ)) (count : ℕ) (t₀ t : Told) (i : �
 module _ (list : List (List ℕ)) (count : ℕ) (t₀ t : Told) (i : ℕ) (w : Walked list count t₀ t i) where
   -- the i-th arrival
   abbrev at : Line
-  at = lineOf (getD (getD list i []) 0 0) (getD (getD list i []) 1 0) (getD (getD list i []) 2 0) (getD (getD list i []) 3 0)
+  at = lineIn (getD (getD list i []) 0 0) (getD (getD list i []) 1 0) (getD (getD list i []) 2 0) (getD (getD list i []) 3 0)
 
   step : (k : ℕ) → count + 1 - i ≡ suc k → follows (ruled (t .day) at) (linesIn (take k (drop (i + 1) list))) ≡ follows t₀ (linesIn (take (count + 1) list))
   unfolding follows linesIn

@@ -24,13 +24,13 @@ kindAt k =
     cond (eqb k (kindNumber Business)) Business
     GapFill))
 
-abbrev pub lineOf : ℕ → ℕ → ℕ → ℕ → Line
-lineOf kind n dup new = record { kind = kindAt kind; n = n; dup = dup; new = new }
+abbrev pub lineIn : ℕ → ℕ → ℕ → ℕ → Line
+lineIn kind n dup new = record { kind = kindAt kind; n = n; dup = dup; new = new }
 
 -- the arrivals that a list holds, each in four numbers
 unfoldable pub linesIn : List (List ℕ) → List Line
 linesIn [] = []
-linesIn (a ∷ list) = lineOf (getD a 0 0) (getD a 1 0) (getD a 2 0) (getD a 3 0) ∷ linesIn list
+linesIn (a ∷ list) = lineIn (getD a 0 0) (getD a 1 0) (getD a 2 0) (getD a 3 0) ∷ linesIn list
 
 -- 41: it holds 4,096, or has no room for one more; a count that is more than it holds is refused the same way
 unfoldable pub isFull : List (List ℕ) → ℕ → Bool

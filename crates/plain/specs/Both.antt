@@ -1,6 +1,6 @@
 -- The two recorders over the same lines (document 02, item 11): the plain one of this crate, and the quick one, which is daysheet's session.
 use Prim.Native.Nat.{ℕ, _+_}
-use mathlib.Core.List.{List, [], _∷_}
+use mathlib.Core.List.{List, [], _∷_, _++_}
 use mathlib.Core.Path.{_≡_}
 use Rattle.session.specs.declared.state.Code.the-variants.{Good}
 use Rattle.session.specs.declared.state.Send.the-variants.{Nothing}
@@ -10,11 +10,15 @@ use Rattle.session.specs.declared.state.Stepped.{Stepped}
 use Rattle.session.specs.Rules.{ruled}
 use Rattle.session.specs.State.{unmoved}
 use Rattle.sheet.specs.declared.line.Line.{Line}
+use Rattle.sheet.specs.declared.line.Said.the-variants as said
+use Rattle.sheet.specs.Line.{saidOf}
+use Rattle.sheet.specs.Print.{lineText}
 use Rattle.sheet.specs.Sheet.{begun, messageOf}
 use Rattle.plain.specs.declared.Day.{Day}
 use Rattle.plain.specs.declared.Day.the-variants.{Down, Waiting, Live}
 use Rattle.plain.specs.declared.Told.{Told}
 use Rattle.plain.specs.Arrivals.{listAfter}
+use Rattle.plain.specs.Plain.{workedOut}
 
 -- each line on the session that the one before it left
 unfoldable pub stepsFrom : Stepped → List Line → Stepped
@@ -48,3 +52,15 @@ pub record Same (p : Told) (q : Stepped) : Type 0 where
 unfoldable pub listFrom : List (List ℕ) → ℕ → List Line → List (List ℕ)
 listFrom list count [] = list
 listFrom list count (l ∷ ls) = listFrom (listAfter list count l) (count + 1) ls
+
+-- every one of these lines of text is good, and they say these
+pub data Reads : List (List ℕ) → List Line → Type 0 where
+  none : Reads [] []
+  next : {b : List ℕ} {bs : List (List ℕ)} {l : Line} {ls : List Line} → saidOf b ≡ said.Line l → Reads bs ls → Reads (b ∷ bs) (l ∷ ls)
+
+-- what the plain recorder prints of lines that follow others, each worked out afresh
+unfoldable pub plainText : List Line → List Line → List ℕ
+plainText before [] = []
+plainText before (l ∷ ls) =
+    let t = workedOut (before ++ l ∷ []) in
+    lineText (t .row) (expectedIn (t .day)) (t .send) ++ plainText (before ++ l ∷ []) ls

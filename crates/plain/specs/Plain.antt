@@ -1,5 +1,6 @@
--- The plain recorder (document 02, item 11): document 01's rules of the session for daysheet's lines, which are of four kinds and all for us. E is the
--- number expected next, O our next number, M the number ahead that made us ask, 0 for none; `repeats` is the count of document 02, item 3.
+-- The plain recorder (document 02, item 11): document 01's rules of the session for daysheet's lines. They are of four kinds, all with our Comp ID and none
+-- a Logout, so that 1 and 5 have no place here. E is the number expected next, O our next number, M the number ahead that made us ask, 0 for none, and
+-- `repeats` the count of document 02, item 3.
 use Prim.Native.Nat.{ℕ, _+_, _-_}
 use mathlib.Core.Bool.{cond}
 use mathlib.Core.List.{List, [], _∷_}
@@ -32,7 +33,7 @@ still d = tells d send.Nothing row.Nothing
 
 -- Stop: a Logout is sent if O is below the last number, the state is Down, E stays, no row
 unfoldable pub stop : ℕ → ℕ → Told
-stop e o = cond (eqb o last) (still (Down e o)) (tells (Down e (o + 1)) (send.Logout o) row.Nothing)
+stop e o = cond (ltb o last) (tells (Down e (o + 1)) (send.Logout o) row.Nothing) (still (Down e o))
 
 -- a row makes E new. M becomes 0 whenever E exceeds it, and the count whenever E changes
 unfoldable pub makes : ℕ → ℕ → ℕ → Row → Told
@@ -69,8 +70,8 @@ lower e o m repeats dup = cond (eqb dup 1) (still (Live e o m repeats)) (stop e 
 unfoldable pub ask : ℕ → ℕ → ℕ → ℕ → Told
 ask e o m repeats = cond (eqb o last) (still (Down e o)) (tells (Live e (o + 1) m repeats) (send.ResendRequest o e 0) row.Nothing)
 
--- 7. n > E: if M = 0, it is asked, and M = n. While M stands, PossDup 1 asks again from E, M staying: two such repeats are asked at the same E, and the
--- third is Stop(37)
+-- 7. n > E: if M = 0, a Resend Request is sent and M = n. While M stands, PossDup 0 asks nothing, and PossDup 1 asks again from E, M staying: two such
+-- repeats are asked at the same E, and the third is Stop(37)
 unfoldable pub higher : ℕ → ℕ → ℕ → ℕ → ℕ → ℕ → Told
 higher e o m repeats n dup =
     cond (eqb m 0) (ask e o n 0) (

@@ -111,7 +111,7 @@ pub(crate) fn put_printed(d: &mut [u8], t: Stepped) -> Laid
     put_line(d, row, session.expected(), send)
 }
 
-// The same at the front of a lent buffer.
+// A label, a line's number and the line end at the front of a lent buffer.
 fn put_counted(d: &mut [u8], label: &[u8], k: u64) -> Laid
     requires { ⌜ length (now label) ≤ 64 ⌝ }
     ensures { λ r. ⌜ r ≡ laidAnswer (countedText (now (label .entry)) k) (now (d .entry)) ⌝ }

@@ -3409,15 +3409,6 @@ fn sheet(rng: &mut Rng) -> Vec<u8> {
     text
 }
 
-/// A day of so many good lines.
-fn long_sheet(count: usize) -> Vec<u8> {
-    let mut text = String::from("kind=logon n=1 dup=0 new=0\n");
-    for n in 2..=count {
-        text += &format!("kind=business n={} dup=0 new=0\n", n);
-    }
-    text.into_bytes()
-}
-
 /// Sheets for the program without a word and, as the next category, the same ones
 /// with `--plain`.
 fn daysheets(tally: &mut Tally, rng: &mut Rng, command: &str, count: u64) {
@@ -3429,13 +3420,13 @@ kind=gapfill n=3 dup=1 new=5
 kind=business n=5 dup=1 new=0
 kind=business n=2 dup=1 new=0
 ";
-    let full = long_sheet(MOST_KEPT);
+    let full = make::long_sheet(MOST_KEPT);
     let mut sheets = vec![
         example.to_vec(),
         make::SHEET_WITH_HOLES.to_vec(),
         // Several times what the program's buffer holds, and more lines than the
         // plain recorder keeps.
-        long_sheet(10_000),
+        make::long_sheet(10_000),
         // As many as it keeps, alone and before a bad line.
         full.clone(),
         [&full[..], b"no\n"].concat(),

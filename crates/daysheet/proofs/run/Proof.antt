@@ -6,11 +6,11 @@ use Rattle.daysheet.proofs.run.Statement.{statement}
 use Rattle.daysheet.proofs.run.Tie as tie
 
 abbrev Inv-loop : tie.InvT-loop
-Inv-loop plain buf₀ list₀ out₀ so-far₀ turns₀ buf list out so-far turns =
+Inv-loop buf₀ list₀ out₀ so-far₀ turns₀ buf list out so-far turns =
     (length buf ≡ length buf₀) × (length list ≡ length list₀) × (length out ≡ length out₀)
 
 abbrev μ-loop : tie.MeasureT-loop
-μ-loop plain buf₀ list₀ out₀ so-far₀ turns₀ buf list out so-far turns = turns
+μ-loop buf₀ list₀ out₀ so-far₀ turns₀ buf list out so-far turns = turns
 
 loop-holds : tie.Need-loop-holds Inv-loop μ-loop
 loop-holds c = (refl, refl, refl)

@@ -1,22 +1,17 @@
 -- `plain::arrive` meets its contract: the invariant is that the arrivals before the i-th are walked.
 use mathlib.Core.Logic.{⊎-elim}
-use mathlib.Core.Path.{_≡_, sym, ap, _∙_}
-use mathlib.Core.Bool.{true, false}
-use Prim.Native.Nat.{ℕ, _+_, _-_, _<_, _≤_}
+use mathlib.Core.Path.{_≡_, sym, _∙_}
+use mathlib.Core.Bool.{true}
+use Prim.Native.Nat.{_+_, _-_, _<_}
 use native.Mathlib.Omega.{arith}
-use lib.ListN.{length, set, length-set}
+use lib.ListN.{length, length-set}
 use borrow.Author.Tests.{leb-true, leb-false}
-use Rattle.plain.specs.Arrivals.{isFull, listAfter, arrived}
+use Rattle.plain.specs.Arrivals.{isFull}
 use Rattle.plain.proofs.ListLaws.{full-nothing, has-room, is-full, has-none}
 use Rattle.plain.proofs.WalkLaws.{Walked, walked-none, walked-next, walked-last, walked-answer}
 use borrow.Author.Needs.{needs}
 use Rattle.plain.proofs.arrive.Statement.{statement}
 use Rattle.plain.proofs.arrive.Tie as tie
-use Rattle.plain.proofs.arrive.Reads as reads
-use Rattle.plain.proofs.arrive.Lts as lts
-use Rattle.plain.proofs.ruled.Reads as ruled-reads
-use Rattle.plain.proofs.tells.Reads as tells-reads
-use Rattle.sheet.proofs.line.Line.numbers.Reads as numbers-reads
 
 abbrev Inv-loop : tie.InvT-loop
 Inv-loop list count told₀ i₀ told i = Walked list count told₀ told i

@@ -3,7 +3,7 @@ use mathlib.Core.Bool.{cond}
 use mathlib.Core.Logic.{⊎-elim}
 use mathlib.Core.Path.{_≡_}
 use borrow.Author.Tests.{eq-eqb, ne-eqb, lt-ltb, le-ltb}
-use Rattle.plain.specs.Arrivals.{lineOf}
+use Rattle.plain.specs.Arrivals.{lineIn}
 use Rattle.plain.specs.Plain.{stop, ruled}
 use Rattle.plain.proofs.RuleLaws.{isTurned, afterTurn, waiting-chain}
 use borrow.Author.Needs.{needs}
@@ -20,7 +20,7 @@ use Rattle.plain.proofs.tells.Reads as tells-reads
 turned : (j : lts.Joined1 (tells-reads.Asked, tells-reads.Learnt, stop-reads.Asked, stop-reads.Learnt, makes-reads.Asked, makes-reads.Learnt, live-reads.Asked, live-reads.Learnt) reads.Pre reads.Post) → j .if1 .if2 ≡ isTurned (j .before .before .day .given .0 .0) (j .before .before .before .before .args .kind) (j .before .before .before .before .args .n)
 turned j = ⊎-elim (λ w. simp (w .1, ne-eqb _ _ (w .0 .taken))) (λ w. simp (w .1, eq-eqb _ _ (w .0 .left))) (j .if1 .came)
 
-waits : (j : lts.Joined1 (tells-reads.Asked, tells-reads.Learnt, stop-reads.Asked, stop-reads.Learnt, makes-reads.Asked, makes-reads.Learnt, live-reads.Asked, live-reads.Learnt) reads.Pre reads.Post) → ruled (j .before .before .before .before .args .day) (lineOf (j .before .before .before .before .args .kind) (j .before .before .before .before .args .n) (j .before .before .before .before .args .dup) (j .before .before .before .before .args .new))
+waits : (j : lts.Joined1 (tells-reads.Asked, tells-reads.Learnt, stop-reads.Asked, stop-reads.Learnt, makes-reads.Asked, makes-reads.Learnt, live-reads.Asked, live-reads.Learnt) reads.Pre reads.Post) → ruled (j .before .before .before .before .args .day) (lineIn (j .before .before .before .before .args .kind) (j .before .before .before .before .args .n) (j .before .before .before .before .args .dup) (j .before .before .before .before .args .new))
     ≡ cond (j .if1 .if2) (stop (j .before .before .day .given .0 .0) (j .before .before .day .given .0 .1 .0)) (afterTurn (j .before .before .day .given .0 .0) (j .before .before .day .given .0 .1 .0) (j .before .before .before .before .args .n))
 unfolding ruled
 waits j = simp (j .before .before .day .given .1, waiting-chain (j .before .before .day .given .0 .0) (j .before .before .day .given .0 .1 .0) (j .before .before .before .before .args .kind) (j .before .before .before .before .args .n), turned j)
