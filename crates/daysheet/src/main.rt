@@ -23,6 +23,7 @@ use sheet::print::put_full;
 use sheet::print::put_line;
 use sheet::sheet::End;
 use sheet::sheet::begun;
+use sheet::sheet::next_count;
 use sheet::sheet::take_lines;
 use spelt::line_length;
 use wire::laying::Laid;
@@ -76,7 +77,7 @@ impl Recorder {
             plain: true,
             session,
             kept,
-            count: if count < u64::MAX { count + 1 } else { count },
+            count: next_count(count),
         };
         Took {
             recorder,

@@ -44,6 +44,7 @@ listAfter list count l = cond (isFull list count) list (set list count (numbersI
 unfoldable pub arrived : List (List ℕ) → ℕ → Line → Arrived
 arrived list count l = cond (isFull list count) Full (Kept (count + 1) (workedOut (linesIn (take count list) ++ l ∷ [])))
 
+-- the number of a refusal, 0 where there is none
 unfoldable pub arrivedNumber : Arrived → ℕ
 arrivedNumber (Kept count t) = 0
 arrivedNumber Full = 41

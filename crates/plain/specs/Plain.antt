@@ -24,6 +24,7 @@ last = 4294967295
 abbrev pub mostRepeats : ℕ
 mostRepeats = 2
 
+-- the day after a line, and the answer to it: what is sent, and the row
 abbrev pub tells : Day → Send → Row → Told
 tells d send row = record { day = d; send = send; row = row }
 

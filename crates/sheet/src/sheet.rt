@@ -65,7 +65,8 @@ fn message_of(line: Line) -> Message
     }
 }
 
-fn next_count(k: u64) -> u64
+// The number of the line after line k.
+pub fn next_count(k: u64) -> u64
     ensures { λ r. ⌜ r ≡ nextCount k ⌝ }
 {
     if k < 18446744073709551615 { k + 1 } else { k }
