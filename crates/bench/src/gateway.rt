@@ -20,7 +20,7 @@ const LIST_BYTES: usize = 1048576;
 
 // Why a message of the list cannot be sent again: the reader refuses it, it bears another number than its place, or it has another Comp ID
 // than the first.
-#[derive(Drop)]
+#[derive(Clone, Copy)]
 enum Fault {
     Refused(u32),
     Bears(u32),
@@ -28,14 +28,14 @@ enum Fault {
 }
 
 // One message of the list: whether it is business, and its length.
-#[derive(Drop)]
+#[derive(Clone, Copy)]
 enum Looked {
     Good(bool, usize),
     Bad(Fault),
 }
 
 // The list: how many messages it has; or the first that cannot be sent again; or more messages than there are marks.
-#[derive(Drop)]
+#[derive(Clone, Copy)]
 enum Listed {
     Good(usize),
     Bad(usize, Fault),
@@ -44,7 +44,7 @@ enum Listed {
 
 // How far the plan was sent: whole; or up to a number that the list does not have, or a message that the writer refuses, neither of which a list
 // that was looked at should bring, though that is not proved; or as far as standard output takes it.
-#[derive(Drop)]
+#[derive(Clone, Copy)]
 enum Sent {
     All,
     Missing(u32),

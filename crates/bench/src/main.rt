@@ -16,6 +16,8 @@
 // 1,048,576 bytes. The messages of the plan are written to standard output as bytes, and nothing else is: a business message as it is listed,
 // in plain form and with PossDup 1; a gap fill with the list's Comp ID. What is wrong with the list or the request is told on standard error,
 // and then nothing is sent.
+#![tactic(auto)]
+
 mod gateway;
 
 ghost use Rattle.std.specs.Prelude.{◌≡◌, ℕ, ◌*◌, ◌≤◌, length};
@@ -55,7 +57,7 @@ fn unread() {
 }
 
 // A byte of standard input.
-#[derive(Drop)]
+#[derive(Clone, Copy)]
 enum Next {
     Byte(u8),
     End,
@@ -75,7 +77,7 @@ fn next_byte() -> Next {
 }
 
 // A line of standard input, without its end: so many bytes, with the line's end behind them or the input's.
-#[derive(Drop)]
+#[derive(Clone, Copy)]
 enum Line {
     Whole(usize),
     Last(usize),
@@ -132,7 +134,7 @@ const MOST: u64 = u32::MAX as u64;
 const PAST: u64 = MOST + 1;
 
 // The decimal digits at the front: how many, and their value.
-#[derive(Drop)]
+#[derive(Clone, Copy)]
 struct Numeral {
     value: u64,
     digits: usize,
@@ -161,14 +163,14 @@ fn number(s: &[u8]) -> Numeral {
 }
 
 // Where a plan is split: nowhere, or behind a number.
-#[derive(Drop)]
+#[derive(Clone, Copy)]
 enum Split {
     Nowhere,
     Behind(u32),
 }
 
 // The first line: Start, End, and where the plan is split; or Start and End of a plan that is sent.
-#[derive(Drop)]
+#[derive(Clone, Copy)]
 enum Request {
     Plan(u32, u32, Split),
     Send(u32, u32),

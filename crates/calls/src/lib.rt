@@ -1,5 +1,7 @@
 // Many messages in one call (document 02, item 1): the messages of a lent slice stand back to back, and each is stepped on in
 // turn. Rows and messages to send are laid as numbers into two lent lists.
+#![tactic(auto)]
+
 ghost use Rattle.std.specs.Prelude.{◌≡◌, [], ◌∷◌, ℕ, ◌+◌, ◌≤◌, ◌<◌, length};
 ghost use Rattle.wire.specs.Laying.{laid};
 ghost use Rattle.wire.specs.Text.{longest};
@@ -29,7 +31,7 @@ const NEEDED: usize = A_ROW + 2 * A_SEND;
 
 // Why a call ended: no whole message was left, which needs so many bytes; a step left the session Down, with this code; or the
 // next step's row or messages to send found no free slot.
-#[derive(Drop)]
+#[derive(Clone, Copy)]
 pub enum Ended {
     Short(usize),
     Down(Code),
@@ -38,7 +40,7 @@ pub enum Ended {
 
 // What a call did: the bytes used, the rows and the messages to send that were written, whether a message was heard, and why it
 // ended. The code is 0, or a refusal: then nothing was done, and with 11 come the slots that are needed.
-#[derive(Drop)]
+#[derive(Clone, Copy)]
 pub struct Done {
     pub session: Session,
     pub code: Code,
@@ -50,14 +52,14 @@ pub struct Done {
 }
 
 // After a turn.
-#[derive(Drop)]
+#[derive(Clone, Copy)]
 enum Next {
     On,
     Ends(Ended),
 }
 
 // What a turn adds: the bytes used, how many numbers it laid into each list, and whether it heard a message.
-#[derive(Drop)]
+#[derive(Clone, Copy)]
 struct Turned {
     session: Session,
     used: usize,

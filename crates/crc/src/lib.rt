@@ -2,6 +2,8 @@
 //
 // Two functions with one promise: `crc32c_plain`, a bit at a time, reads like the definition; `crc32c`, eight bytes
 // at a time by tables, is the one that the reader and the writer of messages use.
+#![tactic(auto)]
+
 mod halves;
 
 ghost use Rattle.std.specs.Prelude.{◌≡◌, ◌%◌, ◌≤◌, length, take};

@@ -5,6 +5,8 @@
 //
 // With --plain the plain recorder answers (document 02, item 11). It prints the same, and ends at a line that finds its list
 // of 4,096 full.
+#![tactic(auto)]
+
 ghost use Rattle.std.specs.Prelude.{◌≡◌, ◌-◌, ◌≤◌, length, take, drop};
 ghost use Rattle.wire.specs.Laying.{laid, laid_answer};
 ghost use Rattle.sheet.specs.Print.{line_text};
@@ -21,7 +23,7 @@ use wire::laying::Laid;
 
 // Whether the plain recorder answers; the quick one's session, how many arrivals the plain one has kept, and the next line's
 // number. (An enum of the two is not to be had: it would hold a session's array.)
-#[derive(Drop)]
+#[derive(Clone, Copy)]
 struct Recorder {
     plain: bool,
     session: Session,
@@ -31,7 +33,7 @@ struct Recorder {
 
 // What is kept from turn to turn: the recorder, where the unread bytes of the input buffer begin and end, whether the input
 // has ended, and whether to go on.
-#[derive(Drop)]
+#[derive(Clone, Copy)]
 struct Progress {
     recorder: Recorder,
     from: usize,
@@ -41,7 +43,7 @@ struct Progress {
 }
 
 // What comes next: more input, more of the lines that are there, or nothing.
-#[derive(Drop)]
+#[derive(Clone, Copy)]
 enum Next {
     Input,
     Lines,
@@ -49,7 +51,7 @@ enum Next {
 }
 
 // What lines gave: the recorder after them, how many bytes they are and how many were printed, and what comes next.
-#[derive(Drop)]
+#[derive(Clone, Copy)]
 struct Took {
     recorder: Recorder,
     used: usize,
@@ -320,7 +322,7 @@ fn run(start: Progress, buf: &mut [u8], list: &mut [[u32; 4]], out: &mut [u8]) {
 }
 
 // What the command line asks for.
-#[derive(Drop)]
+#[derive(Clone, Copy)]
 enum Asked {
     Quick,
     Plain,

@@ -1,4 +1,6 @@
 //! The functions of include/featherloom.h, under their C names. Each hands on to `capi` or below, and promises the same.
+#![tactic(auto)]
+
 ghost use Rattle.std.specs.Prelude.{◌≡◌};
 ghost use Rattle.crc.specs.Crc.{crc32c};
 ghost use Rattle.capi.specs.Reading.{read_c, comp_id_c, map_c, body_c, ask_c, text_c, ListsC};

@@ -10,14 +10,14 @@ use tables::table::{EXECUTION_REPORT, Row, row_of};
 use wire::text::{Allowed, Text, fixed_text, variable_text};
 
 // Why a field is bad: document 01 has one refusal for all.
-#[derive(Drop)]
+#[derive(Clone, Copy)]
 pub enum Reason {
     Field,
 }
 
 // How many bytes a field takes, and how many its plain form takes; or that it overruns the bytes, is no text, or is
 // neither 'Y' nor 'N' where it must be.
-#[derive(Drop)]
+#[derive(Clone, Copy)]
 pub enum Checked {
     Good { taken: usize, plain: usize },
     Bad(Reason),
@@ -118,7 +118,7 @@ fn check_named(messagetype: u8, p: usize, s: &[u8]) -> Checked
 
 // What a quick look at a field needs to know: a number of so many bytes, a Decimal, or a fixed text of these characters and of
 // so many bytes. Every other field is looked up by its name.
-#[derive(Drop)]
+#[derive(Clone, Copy)]
 pub enum Shape {
     Number(usize),
     Decimal,

@@ -4,6 +4,8 @@
 //
 // Every public function takes any map and any body. Of a map the positions 0 to 255 count, and those past its end
 // are clear.
+#![tactic(auto)]
+
 pub mod check;
 pub mod cut;
 pub mod plain;

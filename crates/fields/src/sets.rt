@@ -9,7 +9,7 @@ use tables::table::{Row, row_of, span_of};
 use wire::map::{MAP_BYTES, MAP_POSITIONS, is_present, next_bit};
 
 // A position of a map, or none.
-#[derive(Drop)]
+#[derive(Clone, Copy)]
 pub enum Place {
     At(usize),
     Nowhere,

@@ -1,5 +1,7 @@
 // Prints the layout sheet from the proved tables: for each message type a line with the longest length of its messages and
 // one for each position, and then a line for each position of each of the nine tables of an Execution Report.
+#![tactic(auto)]
+
 use libc::STDOUT_FILENO;
 use names::put_name;
 use tables::dictionary::{Field, Sort, sort_of};

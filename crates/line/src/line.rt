@@ -16,7 +16,7 @@ const MOST_INTERVAL: u32 = 60;
 
 // A session, its interval in seconds, the latest time that was given, when it last sent and last heard, and whether this silence
 // has had its Test Request. The last three are of a Live session alone.
-#[derive(Drop)]
+#[derive(Clone, Copy)]
 pub struct Line {
     pub(crate) session: Session,
     pub(crate) interval: u32,
@@ -27,21 +27,21 @@ pub struct Line {
 }
 
 // What making a line answers: what the day answers, or that its interval is outside the range.
-#[derive(Drop)]
+#[derive(Clone, Copy)]
 pub enum LineCode {
     Day(Code),
     BadInterval,
 }
 
 // A line; or why there is none, beside a line that no message is for.
-#[derive(Drop)]
+#[derive(Clone, Copy)]
 pub struct LineMade {
     pub code: LineCode,
     pub line: Line,
 }
 
 // Connect's answer, as the session gives it.
-#[derive(Drop)]
+#[derive(Clone, Copy)]
 pub struct LineConnected {
     pub line: Line,
     pub code: Code,
@@ -50,7 +50,7 @@ pub struct LineConnected {
 }
 
 // A step's answer, as the session gives it.
-#[derive(Drop)]
+#[derive(Clone, Copy)]
 pub struct LineStepped {
     pub line: Line,
     pub answer: Answer,
@@ -58,14 +58,14 @@ pub struct LineStepped {
 
 // Business in its turn, on a Live line: the line that has taken it, and its length. For any other message the line as it was,
 // and 0.
-#[derive(Drop)]
+#[derive(Clone, Copy)]
 pub struct LineDue {
     pub line: Line,
     pub length: usize,
 }
 
 // What a call of many messages did, as the session gives it.
-#[derive(Drop)]
+#[derive(Clone, Copy)]
 pub struct LineDone {
     pub line: Line,
     pub code: Code,

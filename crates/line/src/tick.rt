@@ -19,7 +19,7 @@ const DOWN: u64 = 3;
 const IDS: u32 = 65536;
 
 // What is due at a time.
-#[derive(Drop)]
+#[derive(Clone, Copy)]
 enum Due {
     Nothing,
     Down,
@@ -29,7 +29,7 @@ enum Due {
 
 // What a tick did: nothing; put the line Down; or a message to send, a Test Request with its number and its ID, or a Heartbeat
 // without ID with its number.
-#[derive(Drop)]
+#[derive(Clone, Copy)]
 pub enum Act {
     Nothing,
     Down,
@@ -38,7 +38,7 @@ pub enum Act {
 }
 
 // A tick's answer. The code is 22 where a message was due and no number is left: the line is Down.
-#[derive(Drop)]
+#[derive(Clone, Copy)]
 pub struct Ticked {
     pub line: Line,
     pub code: Code,
@@ -46,7 +46,7 @@ pub struct Ticked {
 }
 
 // When the next tick is due.
-#[derive(Drop)]
+#[derive(Clone, Copy)]
 pub enum NextTick {
     At(u64),
     Never,

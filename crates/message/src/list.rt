@@ -36,7 +36,7 @@ pub const TEXT: u64 = 3;
 const MOST: usize = 64;
 
 // A good message's header values, its length and how many fields it has, or the refusal.
-#[derive(Drop)]
+#[derive(Clone, Copy)]
 pub enum Listed {
     Good {
         header: Header,

@@ -7,7 +7,7 @@ use crate::refusal::Refusal;
 use crate::vet::{Vetted, vet_named};
 
 // A good message's header values and length, or the refusal.
-#[derive(Drop)]
+#[derive(Clone, Copy)]
 pub enum Reading {
     Good { header: Header, length: usize },
     Refused(Refusal),

@@ -13,7 +13,7 @@ use tables::table::is_type;
 use wire::text::{Allowed, takes_text};
 
 // Nothing is refused, and the body's plain form has so many bytes; or the refusal.
-#[derive(Drop)]
+#[derive(Clone, Copy)]
 pub enum Vetted {
     Good(usize),
     Refused(Refusal),

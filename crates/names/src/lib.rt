@@ -1,4 +1,6 @@
 // The fields' names as 004 section 8.2 writes them, in UTF-8.
+#![tactic(auto)]
+
 ghost use Rattle.std.specs.Prelude.{◌≡◌};
 ghost use Rattle.wire.specs.Laying.{Lays};
 ghost use Rattle.names.specs.Lines.{line_of};

@@ -1,4 +1,6 @@
 // The plain recorder (document 02, item 11): it keeps every arrival, and works each answer out afresh from the first one on.
+#![tactic(auto)]
+
 ghost use Rattle.std.specs.Prelude.{◌≡◌};
 ghost use Rattle.plain.specs.Plain.{tells, stop, makes, ask, higher, live, ruled};
 ghost use Rattle.plain.specs.Arrivals.{kind_at, line_in, arrived, list_after};
@@ -9,7 +11,7 @@ use sheet::line::{BUSINESS, LOGON, Line, RESET};
 pub const MOST_ARRIVALS: usize = 4096; // A list holds no more, each in four numbers.
 
 // The state with E, the number expected next, and O, our next number.
-#[derive(Drop)]
+#[derive(Clone, Copy)]
 pub enum Day {
     Down(u32, u32),
     Waiting(u32, u32),
@@ -17,7 +19,7 @@ pub enum Day {
 }
 
 // The day after an arrival, and the answer to it: what is sent, and the row.
-#[derive(Drop)]
+#[derive(Clone, Copy)]
 pub struct Told {
     pub day: Day,
     pub send: Send,
@@ -25,7 +27,7 @@ pub struct Told {
 }
 
 // An arrival is kept, as the last of so many, and answered; or the list is full, 41.
-#[derive(Drop)]
+#[derive(Clone, Copy)]
 pub enum Arrived {
     Kept(usize, Told),
     Full,

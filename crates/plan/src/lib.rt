@@ -1,5 +1,7 @@
 // The resend plan of a gateway, for the test bench (document 01, "The bench's resend plan"), and two plans joined (document
 // 02, item 12).
+#![tactic(auto)]
+
 ghost use Rattle.std.specs.Prelude.{◌≡◌, ◌∷◌, ◌++◌, true, ◌+◌, ◌-◌, ◌*◌, ◌<◌, ◌≤◌, length, get_or};
 ghost use Rattle.wire.specs.Laying.{at_front};
 ghost use Rattle.plan.specs.Plan.{plan_of, planned, refusal, all_marked, longest_list, is_request, last_number, gap_fill, parts_at, paired};
@@ -17,7 +19,7 @@ pub const A_PAIR: usize = 2;
 const BAD_REQUEST: u32 = 40;
 
 // How many pairs were written; or the refusal, which has written nothing, with the number of pairs needed.
-#[derive(Drop)]
+#[derive(Clone, Copy)]
 pub enum Planned {
     Wrote(usize),
     BadRequest,
@@ -96,7 +98,7 @@ fn run_end(list: &[u8], i: usize) -> usize
 }
 
 // A part's New, and the index after the part.
-#[derive(Drop)]
+#[derive(Clone, Copy)]
 struct Reach {
     new: u32,
     next: usize,

@@ -6,6 +6,8 @@
 // The capture is read from FILE, or from standard input. comp is our Comp ID, by default that of the first message whose
 // checksum is right; expected the number expected next at its first byte, by default 1; own the number of our Logon, by
 // default 1.
+#![tactic(auto)]
+
 ghost use Rattle.std.specs.Prelude.{◌≤◌};
 
 use calls::{A_ROW, A_SEND, Done, steps};
@@ -36,7 +38,7 @@ const ROWS: usize = 256 * A_ROW;
 const SENDS: usize = 2 * A_SEND;
 
 // What was asked for on the command line. A Comp ID of zeros: none was given.
-#[derive(Drop)]
+#[derive(Clone, Copy)]
 struct Asked {
     good: bool,
     ours: [u8; COMP_ID_BYTES],
@@ -387,7 +389,7 @@ fn say_state(out: &mut [u8], said: usize, state: State) -> usize {
 // names it; the offset of the first byte that is not looked at yet, which stands at `from` in the input buffer, the bytes
 // read going to `unread`; how many bytes from there on go message by message; how many bytes stand in the output buffer;
 // whether the input has ended; whether to go on.
-#[derive(Drop)]
+#[derive(Clone, Copy)]
 struct View {
     session: Session,
     named: bool,
@@ -756,7 +758,7 @@ fn replay(asked: Asked, fd: i32) {
 }
 
 // A number of at most 32 bits, one at least.
-#[derive(Drop)]
+#[derive(Clone, Copy)]
 struct Number {
     good: bool,
     value: u32,

@@ -4,6 +4,8 @@
 // Each row is a match, which the compiler lays down once, in read-only memory; a const array it would store anew at every
 // call. The arms stand for n with its top bit turned over: so the compiler's own turn of that bit, by which it counts a
 // byte's values from the least signed one, falls away against the caller's.
+#![tactic(auto)]
+
 ghost use Rattle.std.specs.Prelude.{◌≡◌};
 ghost use Rattle.std.specs.Int.Bits.{bit_xor};
 ghost use Rattle.rows.specs.Steps.{steps};

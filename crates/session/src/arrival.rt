@@ -24,7 +24,7 @@ use wire::text::{Allowed, fixed_part};
 const GAP_FILL: u64 = YES as u64;
 
 // A message's type, with the numbers of its fields that the rules name.
-#[derive(Drop)]
+#[derive(Clone, Copy)]
 pub enum Content {
     Heartbeat,
     // Test Request ID.
@@ -45,7 +45,7 @@ pub enum Content {
     Business,
 }
 
-#[derive(Drop)]
+#[derive(Clone, Copy)]
 pub struct Message {
     pub number: u32,
     pub possdup: bool,
@@ -54,7 +54,7 @@ pub struct Message {
     pub content: Content,
 }
 
-#[derive(Drop)]
+#[derive(Clone, Copy)]
 pub enum Arrival {
     Refused(Refusal),
     Good(Message),
@@ -228,7 +228,7 @@ fn is_due_header(header: Header, e: u32) -> bool
 
 // Business in its turn, on a Live session: the session that has taken it, and its length. For any other message the session as
 // it was, and 0.
-#[derive(Drop)]
+#[derive(Clone, Copy)]
 pub struct Due {
     pub session: Session,
     pub length: usize,

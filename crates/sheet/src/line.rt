@@ -12,7 +12,7 @@ const MOST: u64 = LAST as u64;
 // What stands for every number past it.
 const PAST: u64 = MOST + 1;
 
-#[derive(Drop)]
+#[derive(Clone, Copy)]
 pub enum Kind {
     Logon,
     Business,
@@ -20,7 +20,7 @@ pub enum Kind {
     Reset,
 }
 
-#[derive(Drop)]
+#[derive(Clone, Copy)]
 pub struct Line {
     pub kind: Kind,
     pub n: u32,
@@ -53,14 +53,14 @@ impl Line {
 }
 
 // What a line says.
-#[derive(Drop)]
+#[derive(Clone, Copy)]
 pub enum Said {
     Line(Line),
     Bad,
 }
 
 // The digits at the front: how many, and their value, which stays at 4,294,967,296 once it is past 32 bits.
-#[derive(Drop)]
+#[derive(Clone, Copy)]
 struct Number {
     value: u64,
     digits: usize,

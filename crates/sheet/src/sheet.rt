@@ -11,7 +11,7 @@ use session::state::Session;
 use spelt::line_length;
 
 // Why the lines ended: no whole line is left, the buffer has no room for the next printed line, or a line was bad.
-#[derive(Drop)]
+#[derive(Clone, Copy)]
 pub enum End {
     NoLine,
     NoRoom,
@@ -19,7 +19,7 @@ pub enum End {
 }
 
 // The session after the lines that were taken, the number of the next line, the bytes used and written, and the end.
-#[derive(Drop)]
+#[derive(Clone, Copy)]
 pub struct Taken {
     pub session: Session,
     pub count: u64,

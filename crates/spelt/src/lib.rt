@@ -1,5 +1,7 @@
 // Numbers and Decimals as decimal text, and a text's characters as a terminal shows them safely, laid at the front of a lent buffer; and where
 // a line of text ends.
+#![tactic(auto)]
+
 ghost use Rattle.std.specs.Prelude.{◌≡◌, ◌++◌, ◌+◌, ◌%◌, ◌^◌, ◌≤◌, ◌<◌, nat_abs, length, take, drop};
 ghost use Rattle.wire.specs.Laying.{laid, laid_answer};
 ghost use Rattle.spelt.specs.Lines.{line_length};
@@ -15,7 +17,7 @@ const BACKSLASH: u8 = b'\\';
 const FIRST_LATIN: u8 = 160;
 
 // A number's digits: they stand in text from `from` on.
-#[derive(Drop)]
+#[derive(Clone, Copy)]
 struct Digits {
     text: [u8; 20],
     from: usize,

@@ -1,6 +1,8 @@
 // Outside vectors, run and compared with what they should be: RFC 3720's five CRC32C examples (appendix B.4), the
 // usual check value of CRC32C, 004 section 6.1's Decimal, both ends of the characters that document 02, item 8 names,
 // and letters of Latin-1 in UTF-8 (RFC 3629, section 3).
+#![tactic(auto)]
+
 use libc::STDOUT_FILENO;
 use spelt::put_shown;
 use wire::decimal::{put_decimal, read_decimal};

@@ -12,21 +12,21 @@ use crate::number::{put_u16, read_eight, read_u16};
 pub const LONGEST: usize = 4096;
 
 // The characters that a text is allowed: `Ascii` those from 32 to 126, `Accented` those from 128 to 255 too (document 02, item 8).
-#[derive(Drop)]
+#[derive(Clone, Copy)]
 pub enum Allowed {
     Ascii,
     Accented,
 }
 
 // Where a text's null stands, if only characters stand before it.
-#[derive(Drop)]
+#[derive(Clone, Copy)]
 enum Null {
     At(usize),
     Nowhere,
 }
 
 // How many characters stand before a text's null, and how many bytes the whole field takes.
-#[derive(Drop)]
+#[derive(Clone, Copy)]
 pub enum Text {
     Good { characters: usize, taken: usize },
     Bad,

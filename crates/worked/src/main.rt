@@ -11,6 +11,8 @@
 //     up HEX               one step
 //
 // A line that begins with # is passed over.
+#![tactic(auto)]
+
 use libc::{STDIN_FILENO, STDOUT_FILENO};
 use message::ask::{Asked, ask_number, ask_number_of, ask_text, text};
 use message::read::{Reading, body, comp_id, map, read};
@@ -133,7 +135,7 @@ fn digit(c: u8) -> u8 {
 }
 
 // Bytes, of which the first `count` are meant: room for the longest message and some bytes behind it.
-#[derive(Drop)]
+#[derive(Clone, Copy)]
 struct Bytes {
     all: [u8; 4608],
     count: usize,
