@@ -26,7 +26,7 @@ use Rattle.calls.specs.declared.Next.TheVariants.{On, Ends}
 use Rattle.calls.specs.declared.Turned.{Turned}
 use Rattle.session.specs.Day.{step}
 use Rattle.session.specs.State.{last, sort_number, take as takes}
-use Rattle.calls.specs.Steps.{slots_by, Placed, row-at, row_numbers, send_numbers, Did, joined, and_then, follow, turn_of, turned_by, course, reports, report_of}
+use Rattle.calls.specs.Steps.{slots_by, Placed, row_at, row_numbers, send_numbers, Did, joined, and_then, follow, turn_of, turned_by, course, reports, report_of}
 use Rattle.calls.proofs.CourseLaws.{numbers-rows, numbers-sends, turn_up, turn-within, turn-rows, turn-sends, turn-uses, length-rows, length-sends, course-turn, quick-turn}
 
 -- what the turns so far have done
@@ -169,8 +169,8 @@ module _ {s₀ : Session} {bytes d₀ e₀ d e : List ℕ} {s : Session} {used r
       sym unrolled ∙ ap (λ (x : Next). joined (so_far s used i.rows i.sends heard) (and_then t x others)) h
 
 -- a business row takes five numbers
-pub row-five : (at n e : ℕ) → length (row_numbers (row-at at n (Business e))) ≡ 5
-unfolding row-at row_numbers sort_number
+pub row-five : (at n e : ℕ) → length (row_numbers (row_at at n (Business e))) ≡ 5
+unfolding row_at row_numbers sort_number
 row-five at n e = refl
 
 -- the list as it is, and what is free of it
@@ -212,12 +212,12 @@ module _ {s₀ : Session} {bytes d₀ e₀ d e : List ℕ} {s : Session} {used r
         ∙ ap (turn_of used (length d₀ - row-at) (length e₀ - send_at) s) l
 
     pub going-quick : (p : Session) (b k : ℕ) (y : List ℕ) → p ≡ (takes s (s.expected + 1) s.own Nothing (Business s.expected)).session
-        → b ≡ s.expected → k ≡ length (row_numbers (row-at used n (Business b)))
-        → y ≡ laid (row_numbers (row-at used n (Business b))) (take (length d - row-at) (drop row-at d))
+        → b ≡ s.expected → k ≡ length (row_numbers (row_at used n (Business b)))
+        → y ≡ laid (row_numbers (row_at used n (Business b))) (take (length d - row-at) (drop row-at d))
         → Going s₀ bytes d₀ e₀ (lent_from row-at d y) e p (used + n) (row-at + k) send_at true
-    unfolding quick row-at sort_number send_numbers row_numbers
+    unfolding quick row_at sort_number send_numbers row_numbers
     going-quick p b k y a same c q =
-        let r = q ∙ ap (λ (x : ℕ). laid (row_numbers (row-at used n (Business x))) (take (length d - row-at) (drop row-at d))) same in
+        let r = q ∙ ap (λ (x : ℕ). laid (row_numbers (row_at used n (Business x))) (take (length d - row-at) (drop row-at d))) same in
         let f = rows_on i.rows i.row-front quick.rows y (rows-room i quick is-quick) r in
         let g : Front (send_numbers (i.sends ++ [])) (send_at + 0) e₀ e =
         subst (λ (ws : List Send). Front (send_numbers ws) (send_at + 0) e₀ e) (sym (append-nil i.sends))

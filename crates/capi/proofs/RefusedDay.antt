@@ -13,14 +13,14 @@ use Rattle.session.specs.declared.day.Made.{Made}
 use Rattle.session.specs.declared.state.Code.{Code}
 use Rattle.session.specs.declared.state.Code.TheVariants as code
 use Rattle.session.specs.declared.state.Halt.TheVariants as halt
-use Rattle.session.specs.Day.{not_made-none, day, fresh, saved}
+use Rattle.session.specs.Day.{not_made, day, fresh, saved}
 use Rattle.session.specs.Held.{is_plain_comp_id, is_held}
 use Rattle.session.specs.State.{code_number}
 use Rattle.capi.specs.Sessions.{is_session, shown_made, fresh_c, saved_c}
 
 -- the empty Comp ID beside a refusal
-not_made-none : (k : Code) → is_session (shown_made (not_made-none k)).session ≡ false
-unfolding is_session is_held shown_made not_made-none is_plain_comp_id good_comp_id fixed_part fixed_text characters_of ended null one_past all_characters is_character first_from
+not_made-none : (k : Code) → is_session (shown_made (not_made k)).session ≡ false
+unfolding is_session is_held shown_made not_made is_plain_comp_id good_comp_id fixed_part fixed_text characters_of ended null one_past all_characters is_character first_from
 not_made-none k = refl
 
 refused-day : (comp_id : List ℕ) (e o : ℕ) → ((shown_made (day comp_id e o)).refusal ≡ 0 → ⊥) → is_session (shown_made (day comp_id e o)).session ≡ false

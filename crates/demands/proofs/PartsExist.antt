@@ -46,7 +46,7 @@ use Rattle.writer.proofs.GoodLaws.{wrote-good, wrote-plain}
 use Rattle.writer.proofs.LongestLaws.{room-enough}
 use Rattle.writer.proofs.SaysLaws.{plain-says}
 use Rattle.writer.proofs.SizeLaws.{gap-fill-written}
-use Rattle.plan.specs.Plan.{Part, business, gap_fill, session, parts_from-exist}
+use Rattle.plan.specs.Plan.{Part, business, gap_fill, session, parts_from}
 use Rattle.plan.proofs.PlanShape.{Follows, none as end, one, fill as fills, fill-then, follows-up}
 use Rattle.session.specs.declared.arrival.Content.TheVariants as sort
 use Rattle.session.specs.declared.state.Session.{Session}
@@ -297,13 +297,13 @@ module _ (comp_id : List ℕ) (xs : List Outgoing) where
       go true e = parts_more {p = gap_fill n (n + 1)} (λ z. absurd (omega arith)) (parts_more f w)
       go false e = parts_more {p = gap_fill n p.new} (λ z. absurd (eqb-false p.new 0 e z)) w
 
-  parts_from-exist : (n : ℕ) (rest : List Outgoing) → drop n xs ≡ rest → AllWritable comp_id (n + 1) rest → Parts (parts_from-exist (n + 1) (marks_of (map (says_of comp_id) rest)))
-  unfolding parts_from-exist marks_of
+  parts_from-exist : (n : ℕ) (rest : List Outgoing) → drop n xs ≡ rest → AllWritable comp_id (n + 1) rest → Parts (parts_from (n + 1) (marks_of (map (says_of comp_id) rest)))
+  unfolding parts_from marks_of
   parts_from-exist n [] e done = parts_none
   parts_from-exist n (x ∷ rest) e (more w v) = go (is_business (says_of comp_id x)) refl (parts_from-exist (n + 1) rest (drop-next xs n x rest e) v)
     where
       ps : List Part
-      ps = parts_from-exist (n + 1 + 1) (map (λ (m : Content). cond (is_business m) 1 0) (map (says_of comp_id) rest))
+      ps = parts_from (n + 1 + 1) (map (λ (m : Content). cond (is_business m) 1 0) (map (says_of comp_id) rest))
 
       listed : is_business (says_of comp_id x) ≡ true → Listed (n + 1)
       listed b =
@@ -397,10 +397,10 @@ parts-exist ours comp_id d (x ∷ xs) e o (more y w) r h i l =
     let n : length L ≡ length ys = length-map ys (says_of comp_id) in
     let v : AllWritable comp_id (1 + (e - 1)) (drop (e - 1) ys) = writable-drop (e - 1) ys (more y w) in
     let k : 1 + (e - 1) ≡ e - 1 + 1 = omega arith in
-    let parts : Parts comp_id ys (parts_from-exist (e - 1 + 1) (marks_of (map (says_of comp_id) (drop (e - 1) ys)))) =
+    let parts : Parts comp_id ys (parts_from (e - 1 + 1) (marks_of (map (says_of comp_id) (drop (e - 1) ys)))) =
     parts_from-exist comp_id ys (e - 1) (drop (e - 1) ys) refl (subst (λ (m : ℕ). AllWritable comp_id m (drop (e - 1) ys)) k v) in
-    let same : resend L e ≡ parts_from-exist (e - 1 + 1) (marks_of (map (says_of comp_id) (drop (e - 1) ys))) =
-    resend-is L e h ∙ ap (λ (l : List Content). parts_from-exist (e - 1 + 1) (marks_of l)) (drop-map (says_of comp_id) (e - 1) ys) in
+    let same : resend L e ≡ parts_from (e - 1 + 1) (marks_of (map (says_of comp_id) (drop (e - 1) ys))) =
+    resend-is L e h ∙ ap (λ (l : List Content). parts_from (e - 1 + 1) (marks_of l)) (drop-map (says_of comp_id) (e - 1) ys) in
     sent-own comp_id ys ours d o (writable-comp y) r (resend-follows L e h (omega arith)) (subst (Parts comp_id ys) (sym same) parts) h (omega arith)
 
 -- so a Live session with this Comp ID meets every such gateway

@@ -33,9 +33,9 @@ abbrev all_below : ℕ → (ℕ → Bool) → Bool
 all_below zero f = true
 all_below (suc n) f = cond (f n) (all_below n f) false
 
-abbrev same_bool-is : Bool → Bool → Bool
-same_bool-is true b = b
-same_bool-is false b = not b
+abbrev same_bool : Bool → Bool → Bool
+same_bool true b = b
+same_bool false b = not b
 
 all-below : (n : ℕ) (f : ℕ → Bool) → all_below n f ≡ true → (p : ℕ) → p < n → f p ≡ true
 all-below zero f e p h = absurd (omega arith)
@@ -45,20 +45,20 @@ all-below (suc n) f e p h = go (eqb p n) refl (λ i. all-below n f (both (f n) (
     go true t g = ap f (eqb-true p n t) ∙ (both (f n) (all_below n f) e).0
     go false t g = g (omega (arith, eqb-false p n t))
 
-same_bool-is : (a b : Bool) → same_bool-is a b ≡ true → a ≡ b
+same_bool-is : (a b : Bool) → same_bool a b ≡ true → a ≡ b
 same_bool-is true true e = refl
 same_bool-is true false e = sym e
 same_bool-is false true e = e
 same_bool-is false false e = refl
 
 abbrev nine_same : (ℕ → ℕ → Bool) → (ℕ → ℕ → Bool) → Bool
-nine_same f g = all_below 44 (λ p. all_below 9 (λ j. same_bool-is (f (suc j) p) (g (suc j) p)))
+nine_same f g = all_below 44 (λ p. all_below 9 (λ j. same_bool (f (suc j) p) (g (suc j) p)))
 
 nine-same : (f g : ℕ → ℕ → Bool) → nine_same f g ≡ true → (k p : ℕ) → 1 ≤ k → k ≤ 9 → p < 44 → f k p ≡ g k p
 nine-same f g e zero p l h b = absurd (omega arith)
 nine-same f g e (suc j) p l h b =
-    let x = all-below 44 (λ (q : ℕ). all_below 9 (λ i. same_bool-is (f (suc i) q) (g (suc i) q))) e p b in
-    same_bool-is (f (suc j) p) (g (suc j) p) (all-below 9 (λ (i : ℕ). same_bool-is (f (suc i) p) (g (suc i) p)) x j (omega arith))
+    let x = all-below 44 (λ (q : ℕ). all_below 9 (λ i. same_bool (f (suc i) q) (g (suc i) q))) e p b in
+    same_bool-is (f (suc j) p) (g (suc j) p) (all-below 9 (λ (i : ℕ). same_bool (f (suc i) p) (g (suc i) p)) x j (omega arith))
 
 -- the positions that some of the nine name and some do not, with those that do; the positions that some require and some do not
 abbrev pub some : List ℕ
