@@ -1,12 +1,5 @@
 -- Bytes moved to the front of their own buffer, one by one.
-use mathlib.Core.Path.{◌≡◌, sym, ap, ap₂, ◌∙◌}
-use Prim.Native.Nat.{ℕ, ◌+◌, ◌<◌}
-use native.Mathlib.Nat.{add_comm}
-use native.Mathlib.Numerals.{add-one}
-use native.Mathlib.Omega.{arith}
-use mathlib.Core.List.{List, [], ◌∷◌, ◌++◌}
-use lib.ListN.{length, get_or, take, drop, set, length-drop}
-use lib.Seq.{get_or-drop, take-suc, take-suc-set}
+use Rattle.std.proofs.Common.{◌≡◌, ℕ, ◌+◌, ◌<◌, List, [], ◌∷◌, ◌++◌, length, get_or, take, drop, set, sym, ap, ap₂, ◌∙◌, add_comm, add-one, arith, length-drop, get_or-drop, take-suc, take-suc-set}
 
 -- b is the buffer, b₀ what it was: one byte more of those that stood from `from` on
 pub front-more : (b b₀ : List ℕ) (from i : ℕ) → from + i < length b₀ → i < length b → drop i b ≡ drop i b₀ → take i b ≡ take i (drop from b₀)

@@ -12,14 +12,18 @@ ghost use Rattle.wire.specs.Laying.{laid, laid_answer};
 ghost use Rattle.sheet.specs.Print.{line_text};
 ghost use Rattle.plain.specs.Both.{expected_in};
 
-use libc::{STDERR_FILENO, STDIN_FILENO, STDOUT_FILENO};
 use plain::{Arrived, Day, MOST_ARRIVALS, Told, arrive};
 use session::state::Session;
 use sheet::line::{Line, Said, begins_with, read_line};
 use sheet::print::{put_bad, put_full, put_line};
 use sheet::sheet::{End, begun, next_count, take_lines};
 use spelt::line_length;
+use std::env::{Env, FillError};
+use std::io::Read;
 use wire::laying::Laid;
+
+// Room for a word of the command line.
+const A_WORD: usize = 4096;
 
 // Whether the plain recorder answers; the quick one's session, how many arrivals the plain one has kept, and the next line's
 // number. (An enum of the two is not to be had: it would hold a session's array.)
@@ -97,8 +101,8 @@ impl Progress {
     }
 }
 
-fn complain(text: &[u8]) {
-    io::write_all(STDERR_FILENO, text);
+fn complain(rt: &impl Eprint, text: &str) {
+    let _ = rt.eprint(text);
 }
 
 // The bytes from `from` to `end`, or none where they are not such.
@@ -113,11 +117,11 @@ fn part(buf: &[u8], from: usize, end: usize) -> &[u8] {
 }
 
 // Writes the first n bytes to standard output: whether it could.
-fn print(out: &[u8], n: usize) -> bool {
-    if io::write_all(STDOUT_FILENO, part(out, 0, n)) {
+fn print(rt: &(impl Print + Eprint), out: &[u8], n: usize) -> bool {
+    if rt.write_all(part(out, 0, n)).is_ok() {
         return true;
     }
-    complain(b"daysheet: the standard output cannot be written\n");
+    complain(rt, "daysheet: the standard output cannot be written\n");
     false
 }
 
@@ -145,7 +149,13 @@ fn to_front(buf: &mut [u8], from: usize, end: usize) -> usize
 }
 
 // No whole line is left: more is read behind the unread bytes. At the end of the input a line without its end gets one.
-fn more(so_far: Progress, buf: &mut [u8], out: &mut [u8]) -> Progress {
+fn more(
+    rt: &(impl Print + Eprint),
+    input: &mut impl Read,
+    so_far: Progress,
+    buf: &mut [u8],
+    out: &mut [u8],
+) -> Progress {
     let recorder = so_far.recorder;
     if so_far.closed {
         return so_far.stopped();
@@ -153,16 +163,13 @@ fn more(so_far: Progress, buf: &mut [u8], out: &mut [u8]) -> Progress {
     let kept = so_far.end;
     if buf.len() <= kept {
         let laid = put_bad(out, recorder.count);
-        print(out, laid.besides());
+        print(rt, out, laid.besides());
         return so_far.stopped();
     }
-    let room = &mut buf[kept..];
-    let got = libc::read(STDIN_FILENO, room);
-    let came = io::count(got, room);
-    if got < 0 {
-        complain(b"daysheet: the standard input cannot be read\n");
+    let Ok(came) = input.read(&mut buf[kept..]) else {
+        complain(rt, "daysheet: the standard input cannot be read\n");
         return so_far.stopped();
-    }
+    };
     if 0 < came {
         return so_far.with(0, kept + came, false, true);
     }
@@ -199,6 +206,7 @@ fn quick(recorder: Recorder, s: &[u8], out: &mut [u8]) -> Took {
 }
 
 // E.
+#[tactic(auto, unfolding(plain::specs::Both::expected_in))]
 fn expected(day: Day) -> u32
     ensures { result ≡ expected_in day }
 {
@@ -276,7 +284,14 @@ fn forward(from: usize, used: usize, end: usize) -> usize {
 }
 
 // What was printed is written out; then more is read where no whole line is left.
-fn on(so_far: Progress, took: Took, buf: &mut [u8], out: &mut [u8]) -> Progress {
+fn on(
+    rt: &(impl Print + Eprint),
+    input: &mut impl Read,
+    so_far: Progress,
+    took: Took,
+    buf: &mut [u8],
+    out: &mut [u8],
+) -> Progress {
     let recorder = took.recorder;
     let next = took.next;
     let from = forward(so_far.from, took.used, so_far.end);
@@ -287,13 +302,19 @@ fn on(so_far: Progress, took: Took, buf: &mut [u8], out: &mut [u8]) -> Progress 
         closed: so_far.closed,
         going: true,
     };
-    if !print(out, took.written) {
+    if !print(rt, out, took.written) {
         return after.stopped();
     }
     match next {
         Next::Input => {
             let kept = to_front(buf, from, so_far.end);
-            more(after.with(0, kept, so_far.closed, true), buf, out)
+            more(
+                rt,
+                input,
+                after.with(0, kept, so_far.closed, true),
+                buf,
+                out,
+            )
         }
         Next::Lines => after,
         Next::Nothing => after.stopped(),
@@ -301,23 +322,38 @@ fn on(so_far: Progress, took: Took, buf: &mut [u8], out: &mut [u8]) -> Progress 
 }
 
 // One turn: lines of the buffer, and then more input.
-fn turn(so_far: Progress, buf: &mut [u8], list: &mut [[u32; 4]], out: &mut [u8]) -> Progress {
+fn turn(
+    rt: &(impl Print + Eprint),
+    input: &mut impl Read,
+    so_far: Progress,
+    buf: &mut [u8],
+    list: &mut [[u32; 4]],
+    out: &mut [u8],
+) -> Progress {
     let recorder = so_far.recorder;
     if recorder.plain {
         let took = plainly(recorder, part(buf, so_far.from, so_far.end), list, out);
-        return on(so_far, took, buf, out);
+        return on(rt, input, so_far, took, buf, out);
     }
     let took = quick(recorder, part(buf, so_far.from, so_far.end), out);
-    on(so_far, took, buf, out)
+    on(rt, input, so_far, took, buf, out)
 }
 
-// A proved loop ends, and nothing says that the input does: turns are counted down from a number that no run uses up.
-fn run(start: Progress, buf: &mut [u8], list: &mut [[u32; 4]], out: &mut [u8]) {
+// A proved loop ends, and nothing says that the input does: turns are counted up to a number that no run reaches.
+fn run(
+    rt: &(impl Print + Eprint),
+    input: &mut impl Read,
+    start: Progress,
+    buf: &mut [u8],
+    list: &mut [[u32; 4]],
+    out: &mut [u8],
+) {
     let mut so_far = start;
-    let mut turns = u64::MAX;
-    while turns > 0 && so_far.going {
-        so_far = turn(so_far, buf, list, out);
-        turns -= 1;
+    for _ in 0..u64::MAX {
+        if !so_far.going {
+            return;
+        }
+        so_far = turn(rt, input, so_far, buf, list, out);
     }
 }
 
@@ -334,33 +370,48 @@ fn is_plain(word: &[u8]) -> bool {
     word.len() == plain.len() && begins_with(plain, word)
 }
 
-fn hear() -> Asked {
-    let mut word = io::buffer();
-    let count = os::arg_count();
-    if count < 2 {
+// Whether the command line has a word here.
+fn has_word(rt: &impl Env, i: usize) -> bool {
+    match rt.arg(i, &mut [0u8; 1]) {
+        Ok(_) => true,
+        Err(FillError::TooLong) => true,
+        Err(FillError::NotPresent) => false,
+    }
+}
+
+// Whether the command line has --plain here.
+fn has_plain(rt: &impl Env, i: usize) -> bool {
+    let mut word = [0u8; A_WORD];
+    match rt.arg(i, &mut word) {
+        Ok(n) => is_plain(part(&word, 0, n)),
+        Err(_) => false,
+    }
+}
+
+fn hear(rt: &impl Env) -> Asked {
+    if !has_word(rt, 1) {
         return Asked::Quick;
     }
-    let n = os::arg(1, &mut word);
-    if count == 2 && is_plain(part(&word, 0, n)) {
+    if has_plain(rt, 1) && !has_word(rt, 2) {
         return Asked::Plain;
     }
     Asked::Usage
 }
 
-fn main() {
-    let asked = hear();
+fn main(rt: HostRuntime) {
+    let asked = hear(&rt);
     let plain = match asked {
         Asked::Quick => false,
         Asked::Plain => true,
         Asked::Usage => {
-            complain(b"usage: daysheet [--plain]\n");
+            complain(&rt, "usage: daysheet [--plain]\n");
             return;
         }
     };
     let mut buf = [0u8; 65536];
     let mut out = [0u8; 65536];
     let mut list = [[0u32; 4]; MOST_ARRIVALS];
-    if !print(b"sheet=1\n", 8) {
+    if !print(&rt, b"sheet=1\n", 8) {
         return;
     }
     let session = begun();
@@ -377,5 +428,6 @@ fn main() {
         closed: false,
         going: true,
     };
-    run(start, &mut buf, &mut list, &mut out);
+    let mut input = rt.stdin();
+    run(&rt, &mut input, start, &mut buf, &mut list, &mut out);
 }
