@@ -21,14 +21,16 @@ HEAD = """\
 // Each row is a match, which the compiler lays down once, in read-only memory; a const array it would store anew at every
 // call. The arms stand for n with its top bit turned over: so the compiler's own turn of that bit, by which it counts a
 // byte's values from the least signed one, falls away against the caller's.
-ghost use mathlib.Core.Path.{_≡_};
-ghost use lib.Bits.{bitXor};
-ghost use Rattle·rows·specs.specs.Steps.{steps};
+#![tactic(auto)]
+
+ghost use Rattle.std.specs.Prelude.{◌≡◌};
+ghost use Rattle.std.specs.Int.Bits.{bit_xor};
+ghost use Rattle.rows.specs.Steps.{steps};
 """
 
 FUNCTION = """
 pub fn row%(row)d(b: u8) -> u32
-    ensures { λ r. ⌜ r ≡ steps %(steps)d (bitXor b %(top)d) ⌝ }
+    ensures { result ≡ steps %(steps)d (bit_xor b %(top)d) }
 {
     match b {
 %(arms)s    }
@@ -37,28 +39,26 @@ pub fn row%(row)d(b: u8) -> u32
 
 PROOF = """\
 -- `rows::row%(row)d` meets its contract: each arm is worked out.
-use mathlib.Core.Path.{_≡_, sym, ap}
-use Prim.Native.Nat.{ℕ}
-use lib.Bits.{bitXor}
-use Rattle·rows·specs.specs.Steps.{steps, bitStep}
-use Rattle·rows·proofs.proofs.Last.{last}
-use Rattle·rows·proofs.proofs.row%(row)d.Statement.{statement}
-use Rattle·rows·proofs.proofs.row%(row)d.Tie as tie
+use Rattle.std.proofs.Common.{◌≡◌, ℕ, ap, arith, sym}
+use Rattle.std.specs.Int.Bits.{bit_xor}
+use Rattle.rows.specs.Steps.{steps, bit_step}
+use Rattle.rows.proofs.row%(row)d.Goals as goal
 
 abbrev entry : ℕ → ℕ
-entry b = steps %(steps)d (bitXor b %(top)d)
+entry b = steps %(steps)d (bit_xor b %(top)d)
 
-%(arms)spub row%(row)d-spec : {M : Type 1} → statement M
-row%(row)d-spec =
-    tie.close
-    (tie.spec
-%(needs)s)
+%(arms)s-- none of the numbers before
+pub returns-in_default : goal.returns-in_default
+unfolding steps bit_step
+returns-in_default c =
+    let e : c.args.b ≡ %(last)d = omega arith in
+    sym (ap entry e)
 """
 
 ARM = """\
-%(name)s : tie.Need-%(name)s
-unfolding steps bitStep
-%(name)s c = sym (ap entry (%(key)s))
+pub returns-in-%(number)d : goal.returns-in-%(number)d
+unfolding steps bit_step
+returns-in-%(number)d c = sym (ap entry c.in-%(number)d.is)
 
 """
 
@@ -80,18 +80,14 @@ def function(row):
 
 
 def proof(row):
-    names = ["returns", *(f"returns-{k}" for k in range(2, BYTES + 1))]
-    keys = [*(f"c .match .keys{k}" for k in range(1, BYTES)),
-            "last (c .before .args .b) (c .match .rest) (c .before .fits .b .fits)"]
-    arms = "".join(ARM % {"name": name, "key": key} for name, key in zip(names, keys))
-    needs = "\n".join("    " + name for name in names)
-    return PROOF % {"row": row, "steps": steps(row), "top": TOP, "arms": arms, "needs": needs}
+    arms = "".join(ARM % {"number": n} for n in range(BYTES - 1))
+    return PROOF % {"row": row, "steps": steps(row), "top": TOP, "last": BYTES - 1, "arms": arms}
 
 
 def files():
     yield ROWS / "src/lib.rt", HEAD + "".join(function(row) for row in range(8))
     for row in range(8):
-        yield ROWS / f"proofs/row{row}/Proof.antt", proof(row)
+        yield ROWS / f"proofs/row{row}/Answers.antt", proof(row)
 
 
 if __name__ == "__main__":

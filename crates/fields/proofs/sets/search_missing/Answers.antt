@@ -1,0 +1,23 @@
+use mathlib.Core.Path.{sym, ◌∙◌}
+use Prim.Native.Nat.{◌-◌}
+use native.Mathlib.Omega.{arith}
+use borrow.Author.Rules.{rules}
+use Rattle.tables.specs.Tables.{row_of}
+use Rattle.fields.specs.Sets.{missing_at}
+use Rattle.fields.proofs.SetsLaws.{NoneBelow, none-below-zero, none-below-next, missing-hit, missing-end}
+use Rattle.fields.proofs.sets.search_missing.Goals as goal
+
+pub loop-p-init : goal.loop-p-init
+loop-p-init c = none-below-zero _
+
+pub returns-then-is_missing : goal.returns-then-is_missing
+returns-then-is_missing c =
+    missing-hit _ _ c.loop-p.p (omega (arith, c.span_of-span.ensures)) (sym c.is_missing.ensures ∙ c.if-is_missing.true) c.loop-p.invariant
+
+pub loop-p-preserved : goal.loop-p-preserved
+loop-p-preserved c =
+    none-below-next _ c.loop-p.p c.loop-p.invariant (sym c.is_missing.ensures ∙ c.if-is_missing.false)
+
+pub returns : goal.returns
+returns c =
+    missing-end _ _ c.loop-p.p (omega (arith, c.span_of-span.ensures)) c.loop-p.invariant

@@ -1,0 +1,14 @@
+-- `fields::value::field_text` meets its contract: the map decides whether the field is there, and its sort what is lent.
+use borrow.Author.Tests.{not-true, not-false}
+use Rattle.fields.specs.Value.{field_text}
+use borrow.Author.Rules.{rules}
+use Rattle.fields.proofs.value.field_text.Goals as goal
+
+pub returns-then-not-here : goal.returns-then-not-here
+unfolding field_text
+returns-then-not-here c = simp (c.if-not-here.true)
+
+pub returns : goal.returns
+unfolding field_text
+returns c =
+    simp (c.sort_text.ensures, c.sort_of.ensures, c.if-not-here.false)

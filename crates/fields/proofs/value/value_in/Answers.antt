@@ -1,0 +1,23 @@
+-- `fields::value::value_in` meets its contract: the row decides.
+use mathlib.Core.Path.{sym, ◌∙◌}
+use Rattle.fields.specs.Value.{row_value, value_in}
+use borrow.Author.Rules.{rules}
+use Rattle.fields.proofs.value.value_in.Goals as goal
+
+pub returns-in-Required : goal.returns-in-Required
+unfolding value_in row_value
+returns-in-Required c =
+    simp (c.field_value.ensures, c.is_present.ensures, sym c.row_of.ensures ∙ c.in-Required.is)
+
+pub returns-in-Optional : goal.returns-in-Optional
+unfolding value_in row_value
+returns-in-Optional c =
+    simp (c.field_value-in-Optional.ensures, c.is_present-in-Optional.ensures, sym c.row_of.ensures ∙ c.in-Optional.is)
+
+pub returns-in-UnknownPosition : goal.returns-in-UnknownPosition
+unfolding value_in row_value
+returns-in-UnknownPosition c = simp (sym c.row_of.ensures ∙ c.in-UnknownPosition.is)
+
+pub returns-in-UnknownType : goal.returns-in-UnknownType
+unfolding value_in row_value
+returns-in-UnknownType c = simp (sym c.row_of.ensures ∙ c.in-UnknownType.is)
