@@ -5,12 +5,12 @@ use mathlib.Core.Bool.{Bool, true, false, cond}
 use mathlib.Core.List.{List, [], ◌∷◌, ◌++◌, foldr}
 use Prim.Native.Nat.{ℕ, zero, suc, ◌+◌, ◌≤◌, ◌<◌}
 use native.Mathlib.Omega.{arith}
-use lib.ListN.{length, drop}
+use lib.ListN.{drop}
 use Rattle.tables.specs.declared.table.Row.{Row}
 use Rattle.tables.specs.Tables.{row_of}
 use Rattle.wire.specs.Map.{present}
 use Rattle.fields.specs.Cut.{positions, extent_of, Piece, cut_at, cut, bytes_at}
-use Rattle.fields.specs.Value.{row_value, value_in, value_at}
+use Rattle.fields.specs.Value.{value_in, value_at}
 use Rattle.fields.proofs.CutLaws.{bytes-here, bytes_past}
 use Rattle.message.specs.declared.frame.Header.{Header}
 use Rattle.message.specs.declared.read.Reading.TheVariants as read

@@ -1,0 +1,45 @@
+-- `message::vet::vet_fields` meets its contract: an unknown position first, then a missing one, then what the walk says.
+use mathlib.Core.Path.{sym, ◌∙◌}
+use borrow.Author.Tests.{eq-eqb, ne_eqb}
+use Rattle.message.specs.Vet.{vet_fields, vet_sets, vet_place, vet_walk}
+use Rattle.message.proofs.vet.vet_fields.Goals as goal
+
+pub returns-in-At : goal.returns-in-At
+unfolding vet_fields vet_sets vet_place vet_walk
+returns-in-At c =
+    simp (sym c.lowest_unknown.ensures ∙ c.in-At.is)
+
+pub returns-in-At-lowest_missing : goal.returns-in-At-lowest_missing
+unfolding vet_fields vet_sets vet_place vet_walk
+returns-in-At-lowest_missing c =
+    simp (sym c.lowest_unknown.ensures ∙ c.in_default.is, sym c.lowest_missing.ensures ∙ c.in-At-lowest_missing.is)
+
+pub returns-then-left-eq0 : goal.returns-then-left-eq0
+unfolding vet_fields vet_sets vet_place vet_walk
+returns-then-left-eq0 c =
+    simp (
+      sym c.lowest_unknown.ensures ∙ c.in_default.is,
+      sym c.lowest_missing.ensures ∙ c.in_default-lowest_missing.is,
+      sym c.walk.ensures ∙ c.in-Done.is,
+      eq-eqb _ 0 c.if-left-eq0.true,
+    )
+
+pub returns-else-left-eq0 : goal.returns-else-left-eq0
+unfolding vet_fields vet_sets vet_place vet_walk
+returns-else-left-eq0 c =
+    simp (
+      sym c.lowest_unknown.ensures ∙ c.in_default.is,
+      sym c.lowest_missing.ensures ∙ c.in_default-lowest_missing.is,
+      sym c.walk.ensures ∙ c.in-Done.is,
+      ne_eqb _ 0 c.if-left-eq0.false,
+    )
+
+pub returns-in-BadAt : goal.returns-in-BadAt
+unfolding vet_fields vet_sets vet_place vet_walk
+returns-in-BadAt c =
+    simp (
+      sym c.lowest_unknown.ensures ∙ c.in_default.is,
+      sym c.lowest_missing.ensures ∙ c.in_default-lowest_missing.is,
+      sym c.walk.ensures ∙ c.in-BadAt.is,
+      c.bad_at.ensures,
+    )
