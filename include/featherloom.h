@@ -1,7 +1,7 @@
 /*
  * Featherloom: a drop copy recorder for HKEX's OCG-C binary protocol.
  *
- * Link libfeatherloom.a (`rt staticlib featherloom` writes it, for x86-64 Linux). Every function is proved to meet its
+ * Link libfeatherloom.a (`rt lib` in crates/featherloom writes it, for x86-64 Linux). Every function is proved to meet its
  * promise for every input: none traps, none reads or writes outside what it is lent, none keeps a pointer, allocates or
  * blocks, and each refuses bad input itself, with a number. A refusal writes nothing. There is no global state, so calls
  * from several threads do not disturb each other.

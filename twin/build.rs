@@ -20,7 +20,7 @@ fn main() {
         Ok(folder) => Path::new(&folder).to_path_buf(),
         Err(_) => {
             let package = env::var("CARGO_MANIFEST_DIR").expect("cargo sets it");
-            Path::new(&package).join("../target/staticlib")
+            Path::new(&package).join("../crates/featherloom/out")
         }
     };
     let library = folder.join("libfeatherloom.a");

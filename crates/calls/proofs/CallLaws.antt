@@ -8,7 +8,6 @@ use lib.ListN.{length, drop}
 use Rattle.message.specs.declared.refusal.Refusal.TheVariants.{NoRoom}
 use Rattle.message.specs.Frame.{front_length}
 use Rattle.wire.specs.Laying.{laid}
-use Rattle.wire.proofs.TestLaws.{either}
 use Rattle.session.specs.declared.state.Code.{Code}
 use Rattle.session.specs.declared.state.Code.TheVariants as code
 use Rattle.session.specs.declared.state.Halt.TheVariants as halt
@@ -19,7 +18,7 @@ use Rattle.calls.specs.declared.Done.{Done}
 use Rattle.calls.specs.declared.Ended.{Ended}
 use Rattle.calls.specs.declared.Ended.TheVariants.{Down, NoSlot}
 use Rattle.session.specs.Day.{step}
-use Rattle.calls.specs.Steps.{a_row, a_send, slots_by, row_numbers, send_numbers, Did, did, joined, course, has_room, refusal_in, called_by, called, reports, report_of, steps, rows_after, sends_after, singles}
+use Rattle.calls.specs.Steps.{a_row, a_send, slots_by, row_numbers, send_numbers, Did, joined, course, has_room, refusal_in, called_by, called, reports, report_of, steps, rows_after, sends_after, singles}
 use Rattle.calls.proofs.SingleLaws.{single-steps}
 use Rattle.calls.proofs.SlotLaws.{laid_none}
 

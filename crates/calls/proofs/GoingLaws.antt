@@ -12,7 +12,6 @@ use Rattle.wire.specs.Laying.{laid}
 use Rattle.wire.proofs.BufferLaws.{length-laid, lent_from, Front, front-on, front-own}
 use Rattle.wire.proofs.TestLaws.{rest_of}
 use Rattle.message.specs.Frame.{front_length}
-use Rattle.session.specs.declared.state.Code.{Code}
 use Rattle.session.specs.declared.state.Code.TheVariants as code
 use Rattle.session.specs.declared.state.Row.TheVariants.{Business}
 use Rattle.session.specs.declared.state.Send.{Send}

@@ -1,0 +1,15 @@
+-- `session::state::Code::besides` meets its contract.
+use Rattle.session.specs.State.{code_besides}
+use Rattle.session.proofs.state.Code.besides.Goals as goal
+
+pub returns-in-Good : goal.returns-in-Good
+unfolding code_besides
+returns-in-Good c = simp c.in-Good.is
+
+pub returns-in-Refused : goal.returns-in-Refused
+unfolding code_besides
+returns-in-Refused c = simp (c.besides.ensures, c.in-Refused.is)
+
+pub returns-in-Halted : goal.returns-in-Halted
+unfolding code_besides
+returns-in-Halted c = simp c.in-Halted.is

@@ -1,0 +1,15 @@
+-- `session::state::Code::number` meets its contract.
+use Rattle.session.specs.State.{code_number}
+use Rattle.session.proofs.state.Code.number.Goals as goal
+
+pub returns-in-Good : goal.returns-in-Good
+unfolding code_number
+returns-in-Good c = simp c.in-Good.is
+
+pub returns-in-Refused : goal.returns-in-Refused
+unfolding code_number
+returns-in-Refused c = simp (c.number.ensures, c.in-Refused.is)
+
+pub returns-in-Halted : goal.returns-in-Halted
+unfolding code_number
+returns-in-Halted c = simp (c.number-in-Halted.ensures, c.in-Halted.is)
