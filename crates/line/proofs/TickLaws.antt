@@ -46,6 +46,10 @@ use Rattle.line.specs.Course.{
   after_line,
   InTime,
   at_tick,
+  at-connect,
+  at_drop,
+  at-step,
+  at_call,
   PutsDown,
   by-tick,
   All,
@@ -342,6 +346,10 @@ never-down l t h = go (tick l t) (acted l t)
 
 in-time-up : {l : Line} {h : Happening} → InTime l h → PutsDown l h → ⊥
 in-time-up {l = l} (at_tick b) (by-tick {t = t} e) = never-down l t b e
+in-time-up (at-connect {t = t} {password = password}) h = elim h [ ]
+in-time-up (at_drop {t = t}) h = elim h [ ]
+in-time-up (at-step {t = t} {b = b}) h = elim h [ ]
+in-time-up (at_call {t = t} {r = r} {q = q} {b = b}) h = elim h [ ]
 
 -- so one that always hears in time is never put Down
 pub hears-never-down : (l : Line) (hs : List Happening) → All InTime l hs → All (λ (k : Line) (h : Happening). PutsDown k h → ⊥) l hs

@@ -1,18 +1,15 @@
 -- Business in its turn: a Live line takes it, whatever else it might have answered.
 use mathlib.Core.Path.{◌≡◌, refl, sym, ap, ◌∙◌}
-use mathlib.Core.Bool.{true, false, cond}
+use mathlib.Core.Bool.{true, false}
 use mathlib.Core.List.{List}
 use Prim.Native.Nat.{ℕ, ◌+◌}
 use borrow.Author.Tests.{ne_eqb}
-use lib.Dec.{eqb}
 use Rattle.message.specs.declared.read.Reading.{Reading}
 use Rattle.message.specs.Frame.{front_length}
 use Rattle.message.specs.Read.{read_of}
 use Rattle.session.specs.declared.arrival.Due.{Due}
 use Rattle.session.specs.declared.state.Row.TheVariants.{Business}
 use Rattle.session.specs.declared.state.Send.TheVariants.{Nothing}
-use Rattle.session.specs.declared.state.Session.{Session}
-use Rattle.session.specs.declared.state.Stepped.{Stepped}
 use Rattle.session.specs.State.{code_number, told, take}
 use Rattle.session.specs.Turn.{due_taken, take_due}
 use Rattle.session.proofs.TurnLaws.{due-step}

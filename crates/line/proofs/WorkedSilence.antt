@@ -1,6 +1,6 @@
 -- A worked silence: what the law of four intervals supposes can be met. A Live line with an interval of a second heard and sent at time 0. It is ticked
 -- at 1,000, 2,000 and 3,000 milliseconds, and between the first two a step is lent no bytes, which hears nothing.
-use Prim.Native.Nat.{ℕ, ◌+◌, ◌≤◌}
+use Prim.Native.Nat.{◌+◌, ◌≤◌}
 use mathlib.Core.Path.{◌≡◌, refl}
 use mathlib.Core.Bool.{false}
 use mathlib.Core.List.{List, [], ◌∷◌}
@@ -18,7 +18,7 @@ use Rattle.line.specs.declared.line.Line.{Line}
 use Rattle.line.specs.declared.tick.Act.TheVariants as act
 use Rattle.line.specs.Course.{Happening, lends, ticks, after_line, Silent, none, a-tick, other, DownBy}
 use Rattle.line.specs.Line.{later, is_live, goes_on, wait_since, moved_line, drop_line, is_any, step_line}
-use Rattle.line.specs.Tick.{wait, reached, due_by, due_live, due_at, timed, tested_line, id_of, own_act, numbered, tick_by, tick}
+use Rattle.line.specs.Tick.{wait, reached, due_by, due_live, due_at, tested_line, id_of, own_act, numbered, tick_by, tick}
 use Rattle.line.proofs.SilenceLaws.{four-intervals}
 
 abbrev worked : Line

@@ -2,7 +2,6 @@
 use Rattle.std.specs.Prelude.{ℕ, Bool, true, false, cond, not, ◌&&◌, ◌||◌, ◌≡◌, List, [], eqb, leb, ltb, length}
 use Rattle.session.specs.declared.day.Connected.{Connected}
 use Rattle.session.specs.declared.day.Made.{Made}
-use Rattle.session.specs.declared.state.Answer.{Answer}
 use Rattle.session.specs.declared.state.Code.TheVariants.{Halted}
 use Rattle.session.specs.declared.state.Halt.TheVariants.{NotASession}
 use Rattle.session.specs.declared.state.Send.{Send}

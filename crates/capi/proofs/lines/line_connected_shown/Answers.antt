@@ -1,0 +1,7 @@
+-- `capi::lines::line_connected_shown` meets its contract.
+use Rattle.capi.specs.Lines.{shown_line_connected}
+use Rattle.capi.proofs.lines.line_connected_shown.Goals as goal
+
+pub returns : goal.returns
+unfolding shown_line_connected
+returns c = simp (c.besides.ensures, c.line_shown.ensures, c.number.ensures)

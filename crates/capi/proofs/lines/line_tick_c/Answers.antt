@@ -1,0 +1,16 @@
+-- `capi::lines::line_tick_c` meets its contract: checked, and then ticked.
+use Rattle.capi.specs.Lines.{tick_c}
+use Rattle.capi.proofs.LineLaws.{taken-line, not-taken-line}
+use Rattle.capi.proofs.lines.line_tick_c.Goals as goal
+
+pub returns-then-refusal-ne0 : goal.returns-then-refusal-ne0
+unfolding tick_c
+returns-then-refusal-ne0 c =
+    let u = not-taken-line _ c.line_in-held.result c.number-refusal.result c.line_in-held.ensures c.number-refusal.ensures c.if-refusal-ne0.true in
+    simp (c.no_send.ensures, c.act_number.ensures, u.number, u.fails)
+
+pub returns : goal.returns
+unfolding tick_c
+returns c =
+    let t = taken-line _ c.line_in-held.result c.number-refusal.result c.line_in-held.ensures c.number-refusal.ensures c.if-refusal-ne0.false in
+    simp (c.ticked_shown.ensures, c.tick.ensures, t.line, t.passes)

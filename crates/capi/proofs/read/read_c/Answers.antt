@@ -1,0 +1,7 @@
+-- `capi::read::read_c` meets its contract: what the reader says is shown.
+use Rattle.capi.specs.Reading.{read_c}
+use Rattle.capi.proofs.read.read_c.Goals as goal
+
+pub returns : goal.returns
+unfolding read_c
+returns c = simp (c.reading_shown.ensures, c.read.ensures)
