@@ -2,11 +2,13 @@
 // back, and sends the messages of the plan again as bytes: a business message in plain form with PossDup 1, a gap fill for session numbers.
 ghost use Rattle.std.specs.Prelude.{◌≡◌, ◌*◌, ◌≤◌, length};
 
-use crate::{Next, begins, complain, from, front, next_byte, planned, unread};
-use libc::{STDERR_FILENO, STDIN_FILENO, STDOUT_FILENO};
+use crate::{
+    Next, Out, begins, complain, from, front, next_byte, planned, tell, tell_number, unread,
+};
 use message::frame::{Header, body_in, comp_id_in, front_length, header_in, map_in};
 use message::read::{Reading, read};
 use plan::{A_PAIR, Planned};
+use std::io::{Read, Stdin};
 use tables::table::{BUSINESS_MESSAGE_REJECT, EXECUTION_REPORT};
 use wire::laying::put_bytes;
 use wire::map::MAP_BYTES;
@@ -120,11 +122,11 @@ fn put_part(d: &mut [u8], s: &[u8], first: u32, new: u32) -> Written {
     put_gap_fill(d, comp_id_in(s), first, new)
 }
 
-fn send_part(s: &[u8], first: u32, new: u32) -> Sent {
+fn send_part(out: &mut Out, s: &[u8], first: u32, new: u32) -> Sent {
     let mut d = [0u8; LONGEST];
     match put_part(&mut d, s, first, new) {
         Written::Wrote(n) => {
-            if io::write_all(STDOUT_FILENO, front(&d, n)) {
+            if out.stdout.write_all(front(&d, n)).is_ok() {
                 Sent::All
             } else {
                 Sent::Closed
@@ -135,7 +137,7 @@ fn send_part(s: &[u8], first: u32, new: u32) -> Sent {
 }
 
 // The parts of the plan, in one walk over the list.
-fn send_parts(list: &[u8], pairs: &[u32], count: usize) -> Sent
+fn send_parts(out: &mut Out, list: &[u8], pairs: &[u32], count: usize) -> Sent
     requires { 2 * count ≤ length pairs.now }
 {
     let mut rest = list;
@@ -143,7 +145,7 @@ fn send_parts(list: &[u8], pairs: &[u32], count: usize) -> Sent
     while i < count {
         let first = pairs[A_PAIR * i];
         if header_in(rest).number == first {
-            match send_part(rest, first, pairs[A_PAIR * i + 1]) {
+            match send_part(out, rest, first, pairs[A_PAIR * i + 1]) {
                 Sent::All => {}
                 Sent::Missing(n) => return Sent::Missing(n),
                 Sent::Refused(r) => return Sent::Refused(r),
@@ -165,71 +167,81 @@ fn send_parts(list: &[u8], pairs: &[u32], count: usize) -> Sent
 }
 
 // The end of a line on standard error that ends in a number.
-fn end_with(n: u32) {
-    io::print_decimal(STDERR_FILENO, n as u64);
-    io::write_all(STDERR_FILENO, b"\n");
+fn end_with(out: &mut Out, n: u32) {
+    tell_number(out, n as u64);
+    tell(out, b"\n");
 }
 
-fn complain_with(what: &[u8], n: u32) {
-    complain(what);
-    end_with(n);
+fn complain_with(out: &mut Out, what: &[u8], n: u32) {
+    complain(out, what);
+    end_with(out, n);
 }
 
-fn complain_of_sent(sent: Sent) {
+fn complain_of_sent(out: &mut Out, sent: Sent) {
     match sent {
         Sent::All => {}
-        Sent::Missing(n) => complain_with(b"the list does not have number ", n),
-        Sent::Refused(r) => complain_with(b"a message of the plan cannot be written: refused ", r),
-        Sent::Closed => complain(b"standard output cannot be written\n"),
+        Sent::Missing(n) => complain_with(out, b"the list does not have number ", n),
+        Sent::Refused(r) => complain_with(
+            out,
+            b"a message of the plan cannot be written: refused ",
+            r,
+        ),
+        Sent::Closed => complain(out, b"standard output cannot be written\n"),
     }
 }
 
-fn send_plan(list: &[u8], marks: &[u8], s: u32, e: u32) {
+fn send_plan(out: &mut Out, list: &[u8], marks: &[u8], s: u32, e: u32) {
     let mut pairs = [0u32; 65536];
     let planned = planned(marks, s, e, &mut pairs);
     match planned {
-        Planned::Wrote(n) => complain_of_sent(send_parts(list, &pairs, n)),
-        Planned::BadRequest => complain_with(b"refused ", planned.refusal()),
-        Planned::NoRoom(_) => complain_with(b"refused ", planned.refusal()),
+        Planned::Wrote(n) => {
+            let sent = send_parts(out, list, &pairs, n);
+            complain_of_sent(out, sent);
+        }
+        Planned::BadRequest => complain_with(out, b"refused ", planned.refusal()),
+        Planned::NoRoom(_) => complain_with(out, b"refused ", planned.refusal()),
     }
 }
 
-fn list_too_long() {
-    complain(b"the list is too long: it has at most 1048576 bytes\n");
+fn list_too_long(out: &mut Out) {
+    complain(out, b"the list is too long: it has at most 1048576 bytes\n");
 }
 
-fn too_many() {
-    complain(b"the list is too long: it has at most 65536 messages\n");
+fn too_many(out: &mut Out) {
+    complain(
+        out,
+        b"the list is too long: it has at most 65536 messages\n",
+    );
 }
 
 // A line about message k of the list.
-fn complain_of(k: usize, what: &[u8]) {
-    complain(b"message ");
-    io::print_decimal(STDERR_FILENO, k as u64);
-    io::write_all(STDERR_FILENO, b" of the list ");
-    io::write_all(STDERR_FILENO, what);
+fn complain_of(out: &mut Out, k: usize, what: &[u8]) {
+    complain(out, b"message ");
+    tell_number(out, k as u64);
+    tell(out, b" of the list ");
+    tell(out, what);
 }
 
-fn complain_of_fault(k: usize, fault: Fault) {
+fn complain_of_fault(out: &mut Out, k: usize, fault: Fault) {
     match fault {
         Fault::Refused(r) => {
-            complain_of(k, b"is refused ");
-            end_with(r);
+            complain_of(out, k, b"is refused ");
+            end_with(out, r);
         }
         Fault::Bears(n) => {
-            complain_of(k, b"bears number ");
-            end_with(n);
+            complain_of(out, k, b"bears number ");
+            end_with(out, n);
         }
-        Fault::OtherCompId => complain_of(k, b"has another Comp ID than the first\n"),
+        Fault::OtherCompId => complain_of(out, k, b"has another Comp ID than the first\n"),
     }
 }
 
-fn send_list(list: &[u8], s: u32, e: u32) {
+fn send_list(out: &mut Out, list: &[u8], s: u32, e: u32) {
     let mut marks = [0u8; 65536];
     match mark_list(list, &mut marks) {
-        Listed::Good(n) => send_plan(list, front(&marks, n), s, e),
-        Listed::Bad(k, fault) => complain_of_fault(k, fault),
-        Listed::TooMany => too_many(),
+        Listed::Good(n) => send_plan(out, list, front(&marks, n), s, e),
+        Listed::Bad(k, fault) => complain_of_fault(out, k, fault),
+        Listed::TooMany => too_many(out),
     }
 }
 
@@ -240,13 +252,28 @@ fn list_room() -> [u8; LIST_BYTES]
     [0; LIST_BYTES]
 }
 
+// Reads until d is full, the input ends or a read fails; how many bytes were read.
+fn fill(mut stdin: Stdin, d: &mut [u8]) -> usize
+    ensures { result ≤ length d.new }
+{
+    let mut done = 0;
+    while done < d.len() {
+        match stdin.read(&mut d[done..]) {
+            Ok(0) => break,
+            Ok(n) => done += n,
+            Err(_) => break,
+        }
+    }
+    done
+}
+
 // The list is what is left of standard input, to its end.
-pub(crate) fn send(s: u32, e: u32) {
+pub(crate) fn send(out: &mut Out, stdin: Stdin, s: u32, e: u32) {
     let mut list = list_room();
-    let n = io::read_full(STDIN_FILENO, &mut list);
-    match next_byte() {
-        Next::Byte(_) => list_too_long(),
-        Next::End => send_list(front(&list, n), s, e),
-        Next::Failed => unread(),
+    let n = fill(stdin, &mut list);
+    match next_byte(stdin) {
+        Next::Byte(_) => list_too_long(out),
+        Next::End => send_list(out, front(&list, n), s, e),
+        Next::Failed => unread(out),
     }
 }

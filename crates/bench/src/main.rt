@@ -24,36 +24,63 @@ ghost use Rattle.std.specs.Prelude.{◌≡◌, ℕ, ◌*◌, ◌≤◌, length};
 ghost use Rattle.plan.specs.declared.Planned.TheVariants.{Wrote};
 
 use crate::gateway::send;
-use libc::{STDERR_FILENO, STDIN_FILENO, STDOUT_FILENO};
 use plan::{A_PAIR, Planned, join, plan};
+use std::io;
+use std::io::{Read, Stderr, Stdin, Stdout};
 
-fn say(text: &[u8]) {
-    io::write_all(STDOUT_FILENO, text);
+// Standard output and standard error, and how writing to them went: after the first failure nothing more is written.
+#[derive(Drop)]
+struct Out {
+    stdout: Stdout,
+    stderr: Stderr,
+    result: io::Result<()>,
 }
 
-fn say_number(n: u64) {
-    io::print_decimal(STDOUT_FILENO, n);
+fn say(out: &mut Out, text: &[u8]) {
+    if out.result.is_ok() {
+        out.result = out.stdout.write_all(text);
+    }
 }
 
-fn complain(text: &[u8]) {
-    io::write_all(STDERR_FILENO, b"bench: ");
-    io::write_all(STDERR_FILENO, text);
+fn say_number(out: &mut Out, n: u64) {
+    if out.result.is_ok() {
+        out.result = out.stdout.print(n);
+    }
 }
 
-fn usage() {
+fn tell(out: &mut Out, text: &[u8]) {
+    if out.result.is_ok() {
+        out.result = out.stderr.write_all(text);
+    }
+}
+
+fn tell_number(out: &mut Out, n: u64) {
+    if out.result.is_ok() {
+        out.result = out.stderr.print(n);
+    }
+}
+
+fn complain(out: &mut Out, text: &[u8]) {
+    tell(out, b"bench: ");
+    tell(out, text);
+}
+
+fn usage(out: &mut Out) {
     complain(
+        out,
         b"standard input must be two lines: start=S end=E, with S and E from 0 to 4294967295, or start=S end=E split=M, with M from 1 to 4294967294, and then at most 65536 digits, 1 for a business number and 0 for a session number; or the line send start=S end=E and then at most 1048576 bytes, the messages of the list\n",
     );
 }
 
-fn too_long() {
+fn too_long(out: &mut Out) {
     complain(
+        out,
         b"standard input is too long: a list has at most 65536 digits, and nothing follows its line\n",
     );
 }
 
-fn unread() {
-    complain(b"standard input cannot be read\n");
+fn unread(out: &mut Out) {
+    complain(out, b"standard input cannot be read\n");
 }
 
 // A byte of standard input.
@@ -64,16 +91,13 @@ enum Next {
     Failed,
 }
 
-fn next_byte() -> Next {
+fn next_byte(mut stdin: Stdin) -> Next {
     let mut one = [0u8; 1];
-    let got = libc::read(STDIN_FILENO, &mut one);
-    if got < 0 {
-        return Next::Failed;
+    match stdin.read(&mut one) {
+        Ok(0) => Next::End,
+        Ok(_) => Next::Byte(one[0]),
+        Err(_) => Next::Failed,
     }
-    if got == 0 {
-        return Next::End;
-    }
-    Next::Byte(one[0])
 }
 
 // A line of standard input, without its end: so many bytes, with the line's end behind them or the input's.
@@ -85,10 +109,10 @@ enum Line {
     Failed,
 }
 
-fn read_line(line: &mut [u8]) -> Line {
+fn read_line(stdin: Stdin, line: &mut [u8]) -> Line {
     let mut i = 0;
     while i <= line.len() {
-        match next_byte() {
+        match next_byte(stdin) {
             Next::Byte(b) => {
                 if b == b'\n' {
                     return Line::Whole(i);
@@ -257,49 +281,49 @@ fn mark(list: &mut [u8], n: usize) -> bool {
     true
 }
 
-fn say_part(first: u32, new: u32) {
+fn say_part(out: &mut Out, first: u32, new: u32) {
     if new == 0 {
-        say(b"business n=");
-        say_number(first as u64);
+        say(out, b"business n=");
+        say_number(out, first as u64);
     } else {
-        say(b"gapfill first=");
-        say_number(first as u64);
-        say(b" new=");
-        say_number(new as u64);
+        say(out, b"gapfill first=");
+        say_number(out, first as u64);
+        say(out, b" new=");
+        say_number(out, new as u64);
     }
-    say(b"\n");
+    say(out, b"\n");
 }
 
-fn say_parts(pairs: &[u32], count: usize)
+fn say_parts(out: &mut Out, pairs: &[u32], count: usize)
     requires { 2 * count ≤ length pairs.now }
 {
     let mut i = 0;
     while i < count {
-        say_part(pairs[A_PAIR * i], pairs[A_PAIR * i + 1]);
+        say_part(out, pairs[A_PAIR * i], pairs[A_PAIR * i + 1]);
         i += 1;
     }
 }
 
-fn say_refused(planned: Planned) {
-    say(b"refused ");
-    say_number(planned.refusal() as u64);
+fn say_refused(out: &mut Out, planned: Planned) {
+    say(out, b"refused ");
+    say_number(out, planned.refusal() as u64);
 }
 
 // What was written, or why nothing was.
-fn say_planned(planned: Planned, pairs: &[u32])
+fn say_planned(out: &mut Out, planned: Planned, pairs: &[u32])
     requires { (n : ℕ) → planned ≡ Wrote n → 2 * n ≤ length pairs.now }
 {
     match planned {
-        Planned::Wrote(n) => say_parts(pairs, n),
+        Planned::Wrote(n) => say_parts(out, pairs, n),
         Planned::BadRequest => {
-            say_refused(planned);
-            say(b"\n");
+            say_refused(out, planned);
+            say(out, b"\n");
         }
         Planned::NoRoom(n) => {
-            say_refused(planned);
-            say(b" pairs=");
-            say_number(n as u64);
-            say(b"\n");
+            say_refused(out, planned);
+            say(out, b" pairs=");
+            say_number(out, n as u64);
+            say(out, b"\n");
         }
     }
 }
@@ -311,46 +335,46 @@ fn planned(list: &[u8], s: u32, e: u32, pairs: &mut [u32]) -> Planned
     plan(list, s, e, pairs)
 }
 
-fn say_plan(list: &[u8], s: u32, e: u32, pairs: &mut [u32]) -> Planned
+fn say_plan(out: &mut Out, list: &[u8], s: u32, e: u32, pairs: &mut [u32]) -> Planned
     ensures { (n : ℕ) → result ≡ Wrote n → 2 * n ≤ length pairs.new }
 {
     let planned = planned(list, s, e, pairs);
-    say_planned(planned, pairs);
+    say_planned(out, planned, pairs);
     planned
 }
 
 // The line above a plan where there are more than one.
-fn say_which(word: &[u8], s: u32, e: u32) {
-    say(word);
-    say(b" start=");
-    say_number(s as u64);
-    say(b" end=");
-    say_number(e as u64);
-    say(b"\n");
+fn say_which(out: &mut Out, word: &[u8], s: u32, e: u32) {
+    say(out, word);
+    say(out, b" start=");
+    say_number(out, s as u64);
+    say(out, b" end=");
+    say_number(out, e as u64);
+    say(out, b"\n");
 }
 
-fn say_joined(one: &[u32], other: &[u32], s: u32, e: u32) {
+fn say_joined(out: &mut Out, one: &[u32], other: &[u32], s: u32, e: u32) {
     let mut pairs = [0u32; 65536];
-    say_which(b"joined", s, e);
+    say_which(out, b"joined", s, e);
     let joined = join(one, other, &mut pairs);
-    say_planned(joined, &pairs);
+    say_planned(out, joined, &pairs);
 }
 
 // The plan for s to m and the plan for m + 1 to e, and the two joined. No number follows the last one.
-fn say_split(list: &[u8], s: u32, m: u32, e: u32) {
+fn say_split(out: &mut Out, list: &[u8], s: u32, m: u32, e: u32) {
     if m == u32::MAX {
-        usage();
+        usage(out);
         return;
     }
     let mut one = [0u32; 65536];
     let mut other = [0u32; 65536];
-    say_which(b"plan", s, m);
-    let first = say_plan(list, s, m, &mut one);
-    say_which(b"plan", m + 1, e);
-    let second = say_plan(list, m + 1, e, &mut other);
+    say_which(out, b"plan", s, m);
+    let first = say_plan(out, list, s, m, &mut one);
+    say_which(out, b"plan", m + 1, e);
+    let second = say_plan(out, list, m + 1, e, &mut other);
     match first {
         Planned::Wrote(a) => match second {
-            Planned::Wrote(b) => say_joined(&one[..A_PAIR * a], &other[..A_PAIR * b], s, e),
+            Planned::Wrote(b) => say_joined(out, &one[..A_PAIR * a], &other[..A_PAIR * b], s, e),
             Planned::BadRequest => {}
             Planned::NoRoom(_) => {}
         },
@@ -359,62 +383,81 @@ fn say_split(list: &[u8], s: u32, m: u32, e: u32) {
     }
 }
 
-fn say_whole(list: &[u8], s: u32, e: u32) {
+fn say_whole(out: &mut Out, list: &[u8], s: u32, e: u32) {
     let mut pairs = [0u32; 65536];
-    let _planned = say_plan(list, s, e, &mut pairs);
+    let _planned = say_plan(out, list, s, e, &mut pairs);
 }
 
-fn say_answer(list: &[u8], s: u32, e: u32, split: Split) {
+fn say_answer(out: &mut Out, list: &[u8], s: u32, e: u32, split: Split) {
     match split {
-        Split::Nowhere => say_whole(list, s, e),
-        Split::Behind(m) => say_split(list, s, m, e),
+        Split::Nowhere => say_whole(out, list, s, e),
+        Split::Behind(m) => say_split(out, list, s, m, e),
     }
 }
 
 // The list is in the first n bytes.
-fn answer(list: &mut [u8], n: usize, s: u32, e: u32, split: Split) {
+fn answer(out: &mut Out, list: &mut [u8], n: usize, s: u32, e: u32, split: Split) {
     if mark(list, n) {
-        say_answer(front(list, n), s, e, split);
+        say_answer(out, front(list, n), s, e, split);
     } else {
-        usage();
+        usage(out);
     }
 }
 
 // The list's line has ended, and nothing may follow it.
-fn answer_last(list: &mut [u8], n: usize, s: u32, e: u32, split: Split) {
-    match next_byte() {
-        Next::Byte(_) => too_long(),
-        Next::End => answer(list, n, s, e, split),
-        Next::Failed => unread(),
+fn answer_last(
+    out: &mut Out,
+    stdin: Stdin,
+    list: &mut [u8],
+    n: usize,
+    s: u32,
+    e: u32,
+    split: Split,
+) {
+    match next_byte(stdin) {
+        Next::Byte(_) => too_long(out),
+        Next::End => answer(out, list, n, s, e, split),
+        Next::Failed => unread(out),
     }
 }
 
-fn run(s: u32, e: u32, split: Split) {
+fn run(out: &mut Out, stdin: Stdin, s: u32, e: u32, split: Split) {
     let mut list = [0u8; 65536];
-    match read_line(&mut list) {
-        Line::Whole(n) => answer_last(&mut list, n, s, e, split),
+    match read_line(stdin, &mut list) {
+        Line::Whole(n) => answer_last(out, stdin, &mut list, n, s, e, split),
         Line::Last(n) => {
             if n == 0 {
-                usage();
+                usage(out);
             } else {
-                answer(&mut list, n, s, e, split);
+                answer(out, &mut list, n, s, e, split);
             }
         }
-        Line::TooLong => too_long(),
-        Line::Failed => unread(),
+        Line::TooLong => too_long(out),
+        Line::Failed => unread(out),
     }
 }
 
-fn main() {
+// The first line says what is asked.
+fn answer_first(out: &mut Out, stdin: Stdin) {
     let mut line = [0u8; 64];
-    match read_line(&mut line) {
+    match read_line(stdin, &mut line) {
         Line::Whole(n) => match asked(front(&line, n)) {
-            Request::Plan(s, e, split) => run(s, e, split),
-            Request::Send(s, e) => send(s, e),
-            Request::Bad => usage(),
+            Request::Plan(s, e, split) => run(out, stdin, s, e, split),
+            Request::Send(s, e) => send(out, stdin, s, e),
+            Request::Bad => usage(out),
         },
-        Line::Last(_) => usage(),
-        Line::TooLong => usage(),
-        Line::Failed => unread(),
+        Line::Last(_) => usage(out),
+        Line::TooLong => usage(out),
+        Line::Failed => unread(out),
     }
+}
+
+fn main(rt: HostRuntime) -> io::Result<()> {
+    let mut out = Out {
+        stdout: rt.stdout(),
+        stderr: rt.stderr(),
+        result: Ok(()),
+    };
+    answer_first(&mut out, rt.stdin());
+    out.result
 }

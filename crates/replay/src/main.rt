@@ -11,7 +11,6 @@
 ghost use Rattle.std.specs.Prelude.{◌≤◌};
 
 use calls::{A_ROW, A_SEND, Done, steps};
-use libc::{STDERR_FILENO, STDIN_FILENO, STDOUT_FILENO};
 use message::frame::{COMP_ID_BYTES, Framed, check_frame, comp_id_in, front_length, header_in};
 use message::list::{A_FIELD, DECIMAL, Listed, NUMBER, TEXT, list_fields};
 use message::refusal::{BAD_SUM, SHORT};
@@ -22,6 +21,10 @@ use session::state::{
     Stepped, last_of,
 };
 use spelt::{put_amount, put_number, put_shown};
+use std::env::{Env, FillError};
+use std::io::Read;
+use std::rt::Files;
+use std::{fs, io, str};
 use tables::dictionary::{Field, Sort, sort_of};
 use tables::table::{Row as Place, row_of};
 use wire::decimal::read_decimal;
@@ -36,6 +39,9 @@ const ROWS: usize = 256 * A_ROW;
 
 // Room for what one message gives to send, the least that a call takes.
 const SENDS: usize = 2 * A_SEND;
+
+// Room for a word of the command line.
+const A_WORD: usize = 4096;
 
 // What was asked for on the command line. A Comp ID of zeros: none was given.
 #[derive(Clone, Copy)]
@@ -72,103 +78,120 @@ fn part_of(s: &[u8], at: usize, count: usize) -> &[u8] {
     front(rest, count)
 }
 
-fn complain(text: &[u8]) {
-    io::write_all(STDERR_FILENO, b"replay: ");
-    io::write_all(STDERR_FILENO, text);
-    io::write_all(STDERR_FILENO, b"\n");
+fn complain(rt: &impl Eprint, text: &str) {
+    let _ = eprintln!(rt; "replay: {text}");
 }
 
 // Writes out what stands in the output buffer: whether it could.
-fn flush(out: &[u8], said: usize) -> bool {
+fn flush(rt: &(impl Print + Eprint), out: &[u8], said: usize) -> bool {
     if out.len() < said {
         return false;
     }
-    if io::write_all(STDOUT_FILENO, front(out, said)) {
+    if rt.write_all(front(out, said)).is_ok() {
         return true;
     }
-    complain(b"the standard output cannot be written");
+    complain(rt, "the standard output cannot be written");
     false
 }
 
 // The text behind the first `said` bytes of the output buffer, which is written out first where there is no room: how
 // many bytes stand in it then, or more than it holds once a write has failed. No text here is longer than the buffer.
-fn say(out: &mut [u8], said: usize, text: &[u8]) -> usize {
+fn say(rt: &(impl Print + Eprint), out: &mut [u8], said: usize, text: &[u8]) -> usize {
     if said <= out.len() {
         if text.len() <= out.len() - said {
             put_bytes(&mut out[said..], text);
             return said + text.len();
         }
     }
-    if !flush(out, said) {
+    if !flush(rt, out, said) {
         return usize::MAX;
     }
     put_bytes(out, text);
     front(out, text.len()).len()
 }
 
-fn say_number(out: &mut [u8], said: usize, n: u64) -> usize {
+fn say_number(rt: &(impl Print + Eprint), out: &mut [u8], said: usize, n: u64) -> usize {
     let mut text = [0u8; 32];
     let laid = put_number(&mut text, n);
-    say(out, said, front(&text, laid.besides()))
+    say(rt, out, said, front(&text, laid.besides()))
 }
 
-fn say_amount(out: &mut [u8], said: usize, z: i64) -> usize {
+fn say_amount(rt: &(impl Print + Eprint), out: &mut [u8], said: usize, z: i64) -> usize {
     let mut text = [0u8; 32];
     let laid = put_amount(&mut text, z);
-    say(out, said, front(&text, laid.besides()))
+    say(rt, out, said, front(&text, laid.besides()))
 }
 
-fn say_name(out: &mut [u8], said: usize, field: Field) -> usize {
+fn say_name(rt: &(impl Print + Eprint), out: &mut [u8], said: usize, field: Field) -> usize {
     let mut text = [0u8; 64];
     let laid = put_name(&mut text, field);
-    say(out, said, front(&text, laid.besides()))
+    say(rt, out, said, front(&text, laid.besides()))
 }
 
 // ` label=n`.
-fn say_labelled(out: &mut [u8], said: usize, label: &[u8], n: u64) -> usize {
-    let said = say(out, said, label);
-    say_number(out, said, n)
+fn say_labelled(
+    rt: &(impl Print + Eprint),
+    out: &mut [u8],
+    said: usize,
+    label: &[u8],
+    n: u64,
+) -> usize {
+    let said = say(rt, out, said, label);
+    say_number(rt, out, said, n)
 }
 
-fn say_character(out: &mut [u8], said: usize, b: u8) -> usize {
+fn say_character(rt: &(impl Print + Eprint), out: &mut [u8], said: usize, b: u8) -> usize {
     let mut text = [0u8; 4];
     let laid = put_shown(&mut text, b);
-    say(out, said, front(&text, laid.besides()))
+    say(rt, out, said, front(&text, laid.besides()))
 }
 
 // The characters of a text that is allowed accents, each as a terminal shows it safely.
-fn say_accented(out: &mut [u8], said: usize, text: &[u8]) -> usize {
+fn say_accented(rt: &(impl Print + Eprint), out: &mut [u8], said: usize, text: &[u8]) -> usize {
     let mut now = said;
     let mut i = 0;
     while i < text.len() {
-        now = say_character(out, now, text[i]);
+        now = say_character(rt, out, now, text[i]);
         i += 1;
     }
     now
 }
 
 // The characters of a text that is allowed these. Those from 32 to 126 a terminal shows as they are.
-fn say_allowed(out: &mut [u8], said: usize, allowed: Allowed, text: &[u8]) -> usize {
+fn say_allowed(
+    rt: &(impl Print + Eprint),
+    out: &mut [u8],
+    said: usize,
+    allowed: Allowed,
+    text: &[u8],
+) -> usize {
     match allowed {
-        Allowed::Ascii => say(out, said, text),
-        Allowed::Accented => say_accented(out, said, text),
+        Allowed::Ascii => say(rt, out, said, text),
+        Allowed::Accented => say_accented(rt, out, said, text),
     }
 }
 
 // The characters of this field.
-fn say_text(out: &mut [u8], said: usize, field: Field, text: &[u8]) -> usize {
+fn say_text(
+    rt: &(impl Print + Eprint),
+    out: &mut [u8],
+    said: usize,
+    field: Field,
+    text: &[u8],
+) -> usize {
     match sort_of(field) {
         Sort::Number(_) => said,
         Sort::Decimal => said,
         Sort::Byte => said,
         Sort::YesNo => said,
-        Sort::Fixed(allowed, _) => say_allowed(out, said, allowed, text),
-        Sort::Variable(allowed, _) => say_allowed(out, said, allowed, text),
+        Sort::Fixed(allowed, _) => say_allowed(rt, out, said, allowed, text),
+        Sort::Variable(allowed, _) => say_allowed(rt, out, said, allowed, text),
     }
 }
 
 // The value of this field, whose part of the message has a Decimal's bytes or a text's characters.
 fn say_value(
+    rt: &(impl Print + Eprint),
     out: &mut [u8],
     said: usize,
     field: Field,
@@ -177,19 +200,20 @@ fn say_value(
     part: &[u8],
 ) -> usize {
     if sort == NUMBER {
-        return say_number(out, said, value);
+        return say_number(rt, out, said, value);
     }
     if sort == DECIMAL {
-        return say_amount(out, said, read_decimal(part));
+        return say_amount(rt, out, said, read_decimal(part));
     }
     if sort == TEXT {
-        return say_text(out, said, field, part);
+        return say_text(rt, out, said, field, part);
     }
     said
 }
 
 // A line of one field: its name and its value.
 fn say_field(
+    rt: &(impl Print + Eprint),
     out: &mut [u8],
     said: usize,
     field: Field,
@@ -197,15 +221,22 @@ fn say_field(
     value: u64,
     part: &[u8],
 ) -> usize {
-    let said = say(out, said, b"  ");
-    let said = say_name(out, said, field);
-    let said = say(out, said, b"=");
-    let said = say_value(out, said, field, sort, value, part);
-    say(out, said, b"\n")
+    let said = say(rt, out, said, b"  ");
+    let said = say_name(rt, out, said, field);
+    let said = say(rt, out, said, b"=");
+    let said = say_value(rt, out, said, field, sort, value, part);
+    say(rt, out, said, b"\n")
 }
 
 // The line of the field whose five numbers these are, if the type knows its position.
-fn say_five(out: &mut [u8], said: usize, messagetype: u8, five: &[u64], s: &[u8]) -> usize {
+fn say_five(
+    rt: &(impl Print + Eprint),
+    out: &mut [u8],
+    said: usize,
+    messagetype: u8,
+    five: &[u64],
+    s: &[u8],
+) -> usize {
     if five.len() < A_FIELD {
         return said;
     }
@@ -213,8 +244,8 @@ fn say_five(out: &mut [u8], said: usize, messagetype: u8, five: &[u64], s: &[u8]
     let value = five[4];
     let part = part_of(s, five[2] as usize, five[3] as usize);
     match row_of(messagetype, five[0] as usize) {
-        Place::Required(field) => say_field(out, said, field, sort, value, part),
-        Place::Optional(field) => say_field(out, said, field, sort, value, part),
+        Place::Required(field) => say_field(rt, out, said, field, sort, value, part),
+        Place::Optional(field) => say_field(rt, out, said, field, sort, value, part),
         Place::UnknownPosition => said,
         Place::UnknownType => said,
     }
@@ -222,6 +253,7 @@ fn say_five(out: &mut [u8], said: usize, messagetype: u8, five: &[u64], s: &[u8]
 
 // The listed fields of the message at the front of s, so many, in rising position.
 fn say_listed(
+    rt: &(impl Print + Eprint),
     out: &mut [u8],
     said: usize,
     messagetype: u8,
@@ -233,7 +265,7 @@ fn say_listed(
     let mut rest = numbers;
     let mut left = fields;
     while left > 0 && A_FIELD <= rest.len() {
-        now = say_five(out, now, messagetype, rest, s);
+        now = say_five(rt, out, now, messagetype, rest, s);
         rest = &rest[A_FIELD..];
         left -= 1;
     }
@@ -241,83 +273,110 @@ fn say_listed(
 }
 
 // The fields of the message at the front of s, a line each; nothing where it is refused.
-fn say_fields(out: &mut [u8], said: usize, s: &[u8]) -> usize {
+fn say_fields(rt: &(impl Print + Eprint), out: &mut [u8], said: usize, s: &[u8]) -> usize {
     let mut numbers = [0u64; ROOM];
     match list_fields(&mut numbers, s) {
         Listed::Good {
             header,
             length: _,
             fields,
-        } => say_listed(out, said, header.messagetype, &numbers, fields, s),
+        } => say_listed(rt, out, said, header.messagetype, &numbers, fields, s),
         Listed::Refused(_) => said,
     }
 }
 
-fn say_row(out: &mut [u8], said: usize, name: &[u8], first: u32, last: u32) -> usize {
-    let said = say(out, said, b" row=");
-    let said = say(out, said, name);
-    let said = say_labelled(out, said, b" first=", first as u64);
-    say_labelled(out, said, b" last=", last as u64)
+fn say_row(
+    rt: &(impl Print + Eprint),
+    out: &mut [u8],
+    said: usize,
+    name: &[u8],
+    first: u32,
+    last: u32,
+) -> usize {
+    let said = say(rt, out, said, b" row=");
+    let said = say(rt, out, said, name);
+    let said = say_labelled(rt, out, said, b" first=", first as u64);
+    say_labelled(rt, out, said, b" last=", last as u64)
 }
 
-fn say_send(out: &mut [u8], said: usize, send: Send) -> usize {
+fn say_send(rt: &(impl Print + Eprint), out: &mut [u8], said: usize, send: Send) -> usize {
     match send {
         Send::Nothing => said,
-        Send::Heartbeat(_, _) => say(out, said, b" out=heartbeat"),
-        Send::Logout(_) => say(out, said, b" out=logout"),
-        Send::GapFill(_, _) => say(out, said, b" out=gapfill"),
+        Send::Heartbeat(_, _) => say(rt, out, said, b" out=heartbeat"),
+        Send::Logout(_) => say(rt, out, said, b" out=logout"),
+        Send::GapFill(_, _) => say(rt, out, said, b" out=gapfill"),
         Send::ResendRequest(_, start, _) => {
-            say_labelled(out, said, b" out=resend gap=", start as u64)
+            say_labelled(rt, out, said, b" out=resend gap=", start as u64)
         }
     }
 }
 
-fn say_account(out: &mut [u8], said: usize, row: Row) -> usize {
+fn say_account(rt: &(impl Print + Eprint), out: &mut [u8], said: usize, row: Row) -> usize {
     match row {
-        Row::Nothing => say(out, said, b" row=none"),
-        Row::Business(n) => say_row(out, said, b"business", n, n),
-        Row::Session(n) => say_row(out, said, b"session", n, n),
-        Row::Filled(first, last) => say_row(out, said, b"filled", first, last),
-        Row::Reset(first, last) => say_row(out, said, b"reset", first, last),
+        Row::Nothing => say(rt, out, said, b" row=none"),
+        Row::Business(n) => say_row(rt, out, said, b"business", n, n),
+        Row::Session(n) => say_row(rt, out, said, b"session", n, n),
+        Row::Filled(first, last) => say_row(rt, out, said, b"filled", first, last),
+        Row::Reset(first, last) => say_row(rt, out, said, b"reset", first, last),
     }
 }
 
 // What became of a message: a refusal that changed nothing (1 and 4), a stop, or its type, its number and its row.
-fn say_outcome(out: &mut [u8], said: usize, s: &[u8], code: Code, row: Row) -> usize {
+fn say_outcome(
+    rt: &(impl Print + Eprint),
+    out: &mut [u8],
+    said: usize,
+    s: &[u8],
+    code: Code,
+    row: Row,
+) -> usize {
     let k = code.number();
     if k == SHORT || k == BAD_SUM {
-        return say_labelled(out, said, b" refused=", k as u64);
+        return say_labelled(rt, out, said, b" refused=", k as u64);
     }
     if k != 0 {
-        return say_labelled(out, said, b" stop=", k as u64);
+        return say_labelled(rt, out, said, b" stop=", k as u64);
     }
     let header = header_in(s);
-    let said = say_labelled(out, said, b" type=", header.messagetype as u64);
-    let said = say_labelled(out, said, b" number=", header.number as u64);
-    say_account(out, said, row)
+    let said = say_labelled(rt, out, said, b" type=", header.messagetype as u64);
+    let said = say_labelled(rt, out, said, b" number=", header.number as u64);
+    say_account(rt, out, said, row)
 }
 
 // The line of one step on the message at the front of s, which begins at this offset.
-fn say_step(out: &mut [u8], said: usize, at: u64, s: &[u8], stepped: Stepped) -> usize {
+fn say_step(
+    rt: &(impl Print + Eprint),
+    out: &mut [u8],
+    said: usize,
+    at: u64,
+    s: &[u8],
+    stepped: Stepped,
+) -> usize {
     let session = stepped.session;
     let answer = stepped.answer;
     let row = answer.row;
     let first = answer.first;
     let second = answer.second;
-    let said = say_labelled(out, said, b"at=", at);
+    let said = say_labelled(rt, out, said, b"at=", at);
     let code = answer.code;
-    let said = say_outcome(out, said, s, code, row);
-    let said = say_labelled(out, said, b" next=", session.expected() as u64);
-    let said = say_send(out, said, first);
-    let said = say_send(out, said, second);
-    say(out, said, b"\n")
+    let said = say_outcome(rt, out, said, s, code, row);
+    let said = say_labelled(rt, out, said, b" next=", session.expected() as u64);
+    let said = say_send(rt, out, said, first);
+    let said = say_send(rt, out, said, second);
+    say(rt, out, said, b"\n")
 }
 
 // The fields of the message at the front of s, if it is handed up.
-fn say_business(out: &mut [u8], said: usize, s: &[u8], row: Row) -> usize {
+fn say_business(
+    rt: &(impl Print + Eprint),
+    out: &mut [u8],
+    said: usize,
+    s: &[u8],
+    row: Row,
+) -> usize {
     match row {
         Row::Nothing => said,
-        Row::Business(_) => say_fields(out, said, s),
+        Row::Business(_) => say_fields(rt, out, said, s),
         Row::Session(_) => said,
         Row::Filled(_, _) => said,
         Row::Reset(_, _) => said,
@@ -326,12 +385,19 @@ fn say_business(out: &mut [u8], said: usize, s: &[u8], row: Row) -> usize {
 
 // The line of a message that gave a row and nothing to send, and its fields if it is handed up. A row makes the number
 // after its last the next.
-fn say_taken(out: &mut [u8], said: usize, at: u64, s: &[u8], row: Row) -> usize {
-    let said = say_labelled(out, said, b"at=", at);
-    let said = say_outcome(out, said, s, Code::Good, row);
-    let said = say_labelled(out, said, b" next=", last_of(row) as u64 + 1);
-    let said = say(out, said, b"\n");
-    say_business(out, said, s, row)
+fn say_taken(
+    rt: &(impl Print + Eprint),
+    out: &mut [u8],
+    said: usize,
+    at: u64,
+    s: &[u8],
+    row: Row,
+) -> usize {
+    let said = say_labelled(rt, out, said, b"at=", at);
+    let said = say_outcome(rt, out, said, s, Code::Good, row);
+    let said = say_labelled(rt, out, said, b" next=", last_of(row) as u64 + 1);
+    let said = say(rt, out, said, b"\n");
+    say_business(rt, out, said, s, row)
 }
 
 // The row of this sort.
@@ -346,23 +412,38 @@ fn row_by(sort: u32, first: u32, last: u32) -> Row {
 }
 
 // The line of the row whose five numbers these are: its message stands in s, which begins at this offset.
-fn say_placed(out: &mut [u8], said: usize, at: u64, five: &[u32], s: &[u8]) -> usize {
+fn say_placed(
+    rt: &(impl Print + Eprint),
+    out: &mut [u8],
+    said: usize,
+    at: u64,
+    five: &[u32],
+    s: &[u8],
+) -> usize {
     if five.len() < A_ROW {
         return said;
     }
     let row = row_by(five[0], five[1], five[2]);
     let place = five[3] as usize;
     let part = part_of(s, place, five[4] as usize);
-    say_taken(out, said, more(at, place), part, row)
+    say_taken(rt, out, said, more(at, place), part, row)
 }
 
 // The lines of a call's rows, so many, over the bytes s, which begin at this offset.
-fn say_rows(out: &mut [u8], said: usize, at: u64, numbers: &[u32], rows: usize, s: &[u8]) -> usize {
+fn say_rows(
+    rt: &(impl Print + Eprint),
+    out: &mut [u8],
+    said: usize,
+    at: u64,
+    numbers: &[u32],
+    rows: usize,
+    s: &[u8],
+) -> usize {
     let mut now = said;
     let mut rest = numbers;
     let mut left = rows;
     while left > 0 && A_ROW <= rest.len() {
-        now = say_placed(out, now, at, rest, s);
+        now = say_placed(rt, out, now, at, rest, s);
         rest = &rest[A_ROW..];
         left -= 1;
     }
@@ -377,11 +458,11 @@ fn is_down(state: State) -> bool {
     }
 }
 
-fn say_state(out: &mut [u8], said: usize, state: State) -> usize {
+fn say_state(rt: &(impl Print + Eprint), out: &mut [u8], said: usize, state: State) -> usize {
     match state {
-        State::Down => say(out, said, b" state=down"),
-        State::Waiting => say(out, said, b" state=waiting"),
-        State::Live => say(out, said, b" state=live"),
+        State::Down => say(rt, out, said, b" state=down"),
+        State::Waiting => say(rt, out, said, b" state=waiting"),
+        State::Live => say(rt, out, said, b" state=live"),
     }
 }
 
@@ -519,18 +600,15 @@ fn to_front(buf: &mut [u8], from: usize, end: usize) -> usize {
 }
 
 // No whole message is left: more is read behind the bytes that are left.
-fn refill(view: View, fd: i32, buf: &mut [u8]) -> View {
+fn refill(rt: &impl Eprint, input: &mut impl Read, view: View, buf: &mut [u8]) -> View {
     let kept = to_front(buf, view.from, view.unread);
     if buf.len() <= kept {
         return view.refilled(kept, true);
     }
-    let room = &mut buf[kept..];
-    let got = libc::read(fd, room);
-    let came = io::count(got, room);
-    if got < 0 {
-        complain(b"the capture cannot be read");
+    let Ok(came) = input.read(&mut buf[kept..]) else {
+        complain(rt, "the capture cannot be read");
         return view.refilled(kept, true);
-    }
+    };
     view.refilled(end_of(kept, came), came == 0)
 }
 
@@ -540,15 +618,15 @@ fn left(buf: &[u8], from: usize, unread: usize) -> &[u8] {
 }
 
 // One step: a whole message is there, or the capture has ended.
-fn step(view: View, buf: &[u8], out: &mut [u8]) -> View {
+fn step(rt: &(impl Print + Eprint), view: View, buf: &[u8], out: &mut [u8]) -> View {
     let s = left(buf, view.from, view.unread);
     let session = view.session;
     let stepped = session.step(s);
     let answer = stepped.answer;
     let row = answer.row;
     let next = stepped.session;
-    let said = say_step(out, view.said, view.at, s, stepped);
-    let said = say_business(out, said, s, row);
+    let said = say_step(rt, out, view.said, view.at, s, stepped);
+    let said = say_business(rt, out, said, s, row);
     let code = answer.code;
     if code.number() == SHORT {
         return view.stopped(said);
@@ -586,28 +664,49 @@ fn is_told(done: Done, numbers: &[u32]) -> bool {
 
 // One call over all messages that stand in the buffer. Where its rows do not tell all that it did, it is as if it had not
 // been made, and its messages go one by one: the first at once.
-fn by_calls(view: View, buf: &[u8], out: &mut [u8], rows: &mut [u32], sends: &mut [u32]) -> View {
+fn by_calls(
+    rt: &(impl Print + Eprint),
+    view: View,
+    buf: &[u8],
+    out: &mut [u8],
+    rows: &mut [u32],
+    sends: &mut [u32],
+) -> View {
     let s = left(buf, view.from, view.unread);
     let session = view.session;
     let done = steps(session, s, rows, sends);
     let next = done.session;
     if !is_told(done, rows) {
-        return step(view.by_singles(done.used), buf, out);
+        return step(rt, view.by_singles(done.used), buf, out);
     }
-    let said = say_rows(out, view.said, view.at, rows, done.rows, s);
+    let said = say_rows(rt, out, view.said, view.at, rows, done.rows, s);
     view.past(next, done.used, said)
 }
 
 // The next messages of a session whose Comp ID is ours.
-fn advance(view: View, buf: &[u8], out: &mut [u8], rows: &mut [u32], sends: &mut [u32]) -> View {
+fn advance(
+    rt: &(impl Print + Eprint),
+    view: View,
+    buf: &[u8],
+    out: &mut [u8],
+    rows: &mut [u32],
+    sends: &mut [u32],
+) -> View {
     if 0 < view.single {
-        return step(view, buf, out);
+        return step(rt, view, buf, out);
     }
-    by_calls(view, buf, out, rows, sends)
+    by_calls(rt, view, buf, out, rows, sends)
 }
 
 // The session connects with this Comp ID, and its Logon is sent. A refusal ends the view.
-fn begin(view: View, comp: &[u8], named: bool, asked: Asked, out: &mut [u8]) -> View {
+fn begin(
+    rt: &(impl Print + Eprint),
+    view: View,
+    comp: &[u8],
+    named: bool,
+    asked: Asked,
+    out: &mut [u8],
+) -> View {
     let made = Session::saved(comp, asked.expected, asked.own);
     let down = made.session;
     let connected = down.connect(b"");
@@ -620,28 +719,29 @@ fn begin(view: View, comp: &[u8], named: bool, asked: Asked, out: &mut [u8]) -> 
     if code == 0 {
         return begun;
     }
-    let said = say_labelled(out, view.said, b"at=0 refused=", code as u64);
-    begun.stopped(say(out, said, b"\n"))
+    let said = say_labelled(rt, out, view.said, b"at=0 refused=", code as u64);
+    begun.stopped(say(rt, out, said, b"\n"))
 }
 
 // Begins again with the Comp ID of the message at the front, if its checksum is right. Those before it changed nothing.
-fn name(view: View, asked: Asked, buf: &[u8], out: &mut [u8]) -> View {
+fn name(rt: &(impl Print + Eprint), view: View, asked: Asked, buf: &[u8], out: &mut [u8]) -> View {
     let s = left(buf, view.from, view.unread);
     let comp = comp_id_in(s);
     if !is_comp_id(comp) {
         return view;
     }
     match check_frame(s) {
-        Framed::Whole(_) => begin(view, comp, true, asked, out),
+        Framed::Whole(_) => begin(rt, view, comp, true, asked, out),
         Framed::Refused(_) => view,
     }
 }
 
 // One turn: more input, where a whole message may not stand in the buffer yet; or steps. It ends once a write has failed.
 fn turn(
+    rt: &(impl Print + Eprint),
+    input: &mut impl Read,
     view: View,
     asked: Asked,
-    fd: i32,
     buf: &mut [u8],
     out: &mut [u8],
     rows: &mut [u32],
@@ -652,91 +752,95 @@ fn turn(
         return view.stopped(view.said);
     }
     if !view.closed && n < LONGEST {
-        return refill(view, fd, buf);
+        return refill(rt, input, view, buf);
     }
     if n == 0 {
         return view.stopped(view.said);
     }
     if view.named {
-        return advance(view, buf, out, rows, sends);
+        return advance(rt, view, buf, out, rows, sends);
     }
-    step(name(view, asked, buf, out), buf, out)
+    step(rt, name(rt, view, asked, buf, out), buf, out)
 }
 
-// How many bytes follow those that are looked at.
-fn count_left(view: View, fd: i32, buf: &mut [u8]) -> u64 {
+// How many bytes follow those that are looked at. A read that fails ends them too.
+fn count_left(input: &mut impl Read, view: View, buf: &mut [u8]) -> u64 {
     let mut sum = left(buf, view.from, view.unread).len() as u64;
-    let mut going = !view.closed;
-    let mut turns = u64::MAX;
-    while turns > 0 && going {
-        let got = libc::read(fd, buf);
-        let came = io::count(got, buf);
+    if view.closed {
+        return sum;
+    }
+    for _ in 0..u64::MAX {
+        let came = input.read(buf).unwrap_or(0);
+        if came == 0 {
+            return sum;
+        }
         sum = more(sum, came);
-        going = 0 < came;
-        turns -= 1;
     }
     sum
 }
 
 // The last line: where the view ended, the session then, and how many bytes were not looked at.
-fn say_end(view: View, out: &mut [u8], left: u64) -> usize {
+fn say_end(rt: &(impl Print + Eprint), view: View, out: &mut [u8], left: u64) -> usize {
     let session = view.session;
     let state = session.state();
-    let said = say_labelled(out, view.said, b"end at=", view.at);
-    let said = say_state(out, said, state);
-    let said = say_labelled(out, said, b" next=", session.expected() as u64);
-    let said = say_labelled(out, said, b" own=", session.own() as u64);
-    let said = say_labelled(out, said, b" left=", left);
-    say(out, said, b"\n")
+    let said = say_labelled(rt, out, view.said, b"end at=", view.at);
+    let said = say_state(rt, out, said, state);
+    let said = say_labelled(rt, out, said, b" next=", session.expected() as u64);
+    let said = say_labelled(rt, out, said, b" own=", session.own() as u64);
+    let said = say_labelled(rt, out, said, b" left=", left);
+    say(rt, out, said, b"\n")
 }
 
-// A proved loop ends, and nothing says that the input does: turns are counted down from a number that no run uses up.
+// A proved loop ends, and nothing says that the input does: turns are counted up to a number that no run reaches.
 fn run(
+    rt: &(impl Print + Eprint),
+    input: &mut impl Read,
     view: View,
     asked: Asked,
-    fd: i32,
     buf: &mut [u8],
     out: &mut [u8],
     rows: &mut [u32],
     sends: &mut [u32],
 ) -> View {
     let mut v = view;
-    let mut turns = u64::MAX;
-    while turns > 0 && v.going {
-        v = turn(v, asked, fd, buf, out, rows, sends);
-        turns -= 1;
+    for _ in 0..u64::MAX {
+        if !v.going {
+            return v;
+        }
+        v = turn(rt, input, v, asked, buf, out, rows, sends);
     }
     v
 }
 
 // Before the first byte: our Comp ID, or one that stands in.
-fn connect(view: View, asked: Asked, out: &mut [u8]) -> View {
+fn connect(rt: &(impl Print + Eprint), view: View, asked: Asked, out: &mut [u8]) -> View {
     let ours = asked.ours;
     let comp = fixed_part(Allowed::Ascii, COMP_ID_BYTES, &ours);
     if is_comp_id(comp) {
-        return begin(view, comp, true, asked, out);
+        return begin(rt, view, comp, true, asked, out);
     }
-    begin(view, b"-", false, asked, out)
+    begin(rt, view, b"-", false, asked, out)
 }
 
 // The whole capture.
 fn follow(
+    rt: &(impl Print + Eprint),
+    input: &mut impl Read,
     view: View,
     asked: Asked,
-    fd: i32,
     buf: &mut [u8],
     out: &mut [u8],
     rows: &mut [u32],
     sends: &mut [u32],
 ) {
-    let begun = connect(view, asked, out);
-    let v = run(begun, asked, fd, buf, out, rows, sends);
-    let n = count_left(v, fd, buf);
-    let said = say_end(v, out, n);
-    flush(out, said);
+    let begun = connect(rt, view, asked, out);
+    let v = run(rt, input, begun, asked, buf, out, rows, sends);
+    let n = count_left(input, v, buf);
+    let said = say_end(rt, v, out, n);
+    flush(rt, out, said);
 }
 
-fn replay(asked: Asked, fd: i32) {
+fn replay(rt: &(impl Print + Eprint), input: &mut impl Read, asked: Asked) {
     let mut buf = [0u8; 65536];
     let mut out = [0u8; 65536];
     let mut rows = [0u32; ROWS];
@@ -754,7 +858,9 @@ fn replay(asked: Asked, fd: i32) {
         closed: false,
         going: true,
     };
-    follow(view, asked, fd, &mut buf, &mut out, &mut rows, &mut sends);
+    follow(
+        rt, input, view, asked, &mut buf, &mut out, &mut rows, &mut sends,
+    );
 }
 
 // A number of at most 32 bits, one at least.
@@ -874,9 +980,8 @@ impl Asked {
 }
 
 // The whole command line.
-fn hear() -> Asked {
-    let mut word = io::buffer();
-    let count = os::arg_count();
+fn hear(rt: &impl Env) -> Asked {
+    let mut word = [0u8; A_WORD];
     let mut asked = Asked {
         good: true,
         ours: [0u8; COMP_ID_BYTES],
@@ -884,39 +989,62 @@ fn hear() -> Asked {
         own: 1,
         path: 0,
     };
-    let mut i: usize = 1;
-    while i < count {
-        let n = os::arg(i, &mut word);
-        if os::errno() != 0 {
-            let ours = asked.ours;
-            return asked.with(false, ours, 1, 1, 0);
+    for i in 1..usize::MAX {
+        match rt.arg(i, &mut word) {
+            Ok(n) => asked = asked.hears(front(&word, n), i),
+            Err(FillError::TooLong) => {
+                let ours = asked.ours;
+                return asked.with(false, ours, 1, 1, 0);
+            }
+            Err(FillError::NotPresent) => return asked,
         }
-        asked = asked.hears(&word[..n], i);
-        i += 1;
     }
     asked
 }
 
-fn main() {
-    let asked = hear();
+// The system's words for an error, behind which std says its number.
+fn words_in(text: &str) -> &str {
+    match text.split_once(" (os error ") {
+        Some((words, _)) => words,
+        None => text,
+    }
+}
+
+// The file of this name cannot be opened.
+fn fail(rt: &(impl Eprint + Alloc), path: &str, error: io::Error) {
+    let _ = match format!(in rt.alloc(); "{error}") {
+        Ok(text) => rt.eprintln(format_args!("{path}: {}", words_in(text.as_str()))),
+        Err(_) => rt.eprintln(format_args!("{path}: {error}")),
+    };
+}
+
+// The capture in the file of this name.
+fn open(rt: &(impl Print + Eprint + Files + Alloc), path: &str, asked: Asked) {
+    match fs::open(rt, path) {
+        Ok(mut file) => replay(rt, &mut file, asked),
+        Err(error) => fail(rt, path, error),
+    }
+}
+
+// The capture in FILE. std opens a file by a name in UTF-8 alone.
+fn replay_file(rt: &(impl Print + Eprint + Files + Env + Alloc), asked: Asked) {
+    let mut word = [0u8; A_WORD];
+    let n = rt.arg(asked.path, &mut word).unwrap_or(0);
+    match str::from_utf8(front(&word, n)) {
+        Ok(path) => open(rt, path, asked),
+        Err(_) => complain(rt, "the name of FILE is not UTF-8"),
+    }
+}
+
+fn main(rt: HostRuntime) {
+    let asked = hear(&rt);
     if !asked.good {
-        io::write_all(
-            STDERR_FILENO,
-            b"usage: replay [comp=ID] [expected=E] [own=O] [FILE]\n",
-        );
+        let _ = eprintln!(rt; "usage: replay [comp=ID] [expected=E] [own=O] [FILE]");
         return;
     }
     if asked.path == 0 {
-        replay(asked, STDIN_FILENO);
+        replay(&rt, &mut rt.stdin(), asked);
         return;
     }
-    let mut path = io::buffer();
-    let n = os::arg(asked.path, &mut path);
-    let fd = os::open_read(&path[..n]);
-    if fd < 0 {
-        os::fail(&path[..n]);
-        return;
-    }
-    replay(asked, fd);
-    libc::close(fd);
+    replay_file(&rt, asked);
 }

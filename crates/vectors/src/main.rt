@@ -3,119 +3,152 @@
 // and letters of Latin-1 in UTF-8 (RFC 3629, section 3).
 #![tactic(auto)]
 
-use libc::STDOUT_FILENO;
 use spelt::put_shown;
+use std::io;
+use std::io::Stdout;
 use wire::decimal::{put_decimal, read_decimal};
 use wire::laying::Laid;
 use wire::text::{Allowed, characters_in};
 
-fn say(text: &[u8]) {
-    io::write_all(STDOUT_FILENO, text);
+// Standard output, and how writing to it went: after the first failure nothing more is written.
+#[derive(Drop)]
+struct Out {
+    stdout: Stdout,
+    result: io::Result<()>,
+}
+
+fn say(out: &mut Out, text: &[u8]) {
+    if out.result.is_ok() {
+        out.result = out.stdout.write_all(text);
+    }
+}
+
+// A sum as eight hexadecimal digits.
+fn say_sum(out: &mut Out, sum: u32) {
+    if out.result.is_ok() {
+        out.result = out.stdout.print(format_args!("{sum:08x}"));
+    }
+}
+
+fn say_number(out: &mut Out, n: usize) {
+    if out.result.is_ok() {
+        out.result = out.stdout.print(n);
+    }
 }
 
 // Ends a line with the verdict.
-fn judge(right: bool) {
+fn judge(out: &mut Out, right: bool) {
     if right {
-        say(b" right\n");
+        say(out, b" right\n");
     } else {
-        say(b" WRONG\n");
+        say(out, b" WRONG\n");
     }
 }
 
 // One message through both sums, which must give the number `want`.
-fn sum(name: &[u8], message: &[u8], want: u32) {
+fn sum(out: &mut Out, name: &[u8], message: &[u8], want: u32) {
     let fast = crc::crc32c(message);
     let plain = crc::crc32c_plain(message);
-    say(b"crc32c of ");
-    say(name);
-    say(b": ");
-    io::print_hex(STDOUT_FILENO, fast as u64, 8);
-    judge(fast == want && plain == want);
+    say(out, b"crc32c of ");
+    say(out, name);
+    say(out, b": ");
+    say_sum(out, fast);
+    judge(out, fast == want && plain == want);
 }
 
-fn sums_of_runs() {
+fn sums_of_runs(out: &mut Out) {
     let zeros = [0u8; 32];
-    sum(b"32 bytes of zeros", &zeros, 0x8A9136AA);
+    sum(out, b"32 bytes of zeros", &zeros, 0x8A9136AA);
     let ones = [0xFFu8; 32];
-    sum(b"32 bytes of ones", &ones, 0x62A8AB43);
+    sum(out, b"32 bytes of ones", &ones, 0x62A8AB43);
     let rising = [
         0u8, 1, 2, 3, 4, 5, 6, 7, 8, 9, 10, 11, 12, 13, 14, 15, 16, 17, 18, 19, 20, 21, 22, 23, 24,
         25, 26, 27, 28, 29, 30, 31,
     ];
-    sum(b"32 rising bytes", &rising, 0x46DD794E);
+    sum(out, b"32 rising bytes", &rising, 0x46DD794E);
     let falling = [
         31u8, 30, 29, 28, 27, 26, 25, 24, 23, 22, 21, 20, 19, 18, 17, 16, 15, 14, 13, 12, 11, 10,
         9, 8, 7, 6, 5, 4, 3, 2, 1, 0,
     ];
-    sum(b"32 falling bytes", &falling, 0x113FDB5C);
+    sum(out, b"32 falling bytes", &falling, 0x113FDB5C);
 }
 
-fn sums_of_messages() {
+fn sums_of_messages(out: &mut Out) {
     let command = [
         0x01u8, 0xC0, 0, 0, 0, 0, 0, 0, 0, 0, 0, 0, 0, 0, 0, 0, 0x14, 0, 0, 0, 0, 0, 0x04, 0, 0, 0,
         0, 0x14, 0, 0, 0, 0x18, 0x28, 0, 0, 0, 0, 0, 0, 0, 0x02, 0, 0, 0, 0, 0, 0, 0,
     ];
-    sum(b"an iSCSI read command", &command, 0xD9963A56);
-    sum(b"123456789", b"123456789", 0xE3069283);
-    sum(b"no byte", b"", 0);
+    sum(out, b"an iSCSI read command", &command, 0xD9963A56);
+    sum(out, b"123456789", b"123456789", 0xE3069283);
+    sum(out, b"no byte", b"", 0);
 }
 
 // Whether a Decimal is laid down as these eight bytes and read back from them.
 fn decimal_is(bytes: &[u8; 8], value: i64) -> bool {
     let mut d = [0u8; 8];
     match put_decimal(&mut d, value) {
-        Laid::Wrote(n) => n == 8 && check::same(&d, bytes) && read_decimal(bytes) == value,
+        Laid::Wrote(n) => n == 8 && d == *bytes && read_decimal(bytes) == value,
         Laid::BadText => false,
         Laid::NoRoom(_) => false,
     }
 }
 
-fn decimals() {
+fn decimals(out: &mut Out) {
     let worked = [0x6Cu8, 0x5D, 0xD4, 0xD4, 0xE8, 0, 0, 0];
-    say(b"Decimal 10000.03100012:");
-    judge(decimal_is(&worked, 1000003100012));
+    say(out, b"Decimal 10000.03100012:");
+    judge(out, decimal_is(&worked, 1000003100012));
     let ones = [0xFFu8; 8];
-    say(b"Decimal -0.00000001:");
-    judge(decimal_is(&ones, -1));
+    say(out, b"Decimal -0.00000001:");
+    judge(out, decimal_is(&ones, -1));
     let lowest = [0u8, 0, 0, 0, 0, 0, 0, 0x80];
-    say(b"Decimal -92233720368.54775808:");
-    judge(decimal_is(&lowest, -9223372036854775808));
+    say(out, b"Decimal -92233720368.54775808:");
+    judge(out, decimal_is(&lowest, -9223372036854775808));
 }
 
 // How many bytes at the front of a text are characters, with these allowed.
-fn counted(name: &[u8], allowed: Allowed, text: &[u8], want: usize) {
+fn counted(out: &mut Out, name: &[u8], allowed: Allowed, text: &[u8], want: usize) {
     let n = characters_in(allowed, text);
-    say(name);
-    say(b": ");
-    io::print_decimal(STDOUT_FILENO, n as u64);
-    judge(n == want);
+    say(out, name);
+    say(out, b": ");
+    say_number(out, n);
+    judge(out, n == want);
 }
 
 // The ends of each run of characters, one by one and among the eight that are looked at at once.
-fn characters() {
-    counted(b"32, 126, 127 in ascii", Allowed::Ascii, b" ~\x7F", 2);
-    counted(b"32, 31 in ascii", Allowed::Ascii, b" \x1F", 1);
-    counted(b"126, 128 in ascii", Allowed::Ascii, b"~\x80", 1);
+fn characters(out: &mut Out) {
+    counted(out, b"32, 126, 127 in ascii", Allowed::Ascii, b" ~\x7F", 2);
+    counted(out, b"32, 31 in ascii", Allowed::Ascii, b" \x1F", 1);
+    counted(out, b"126, 128 in ascii", Allowed::Ascii, b"~\x80", 1);
     counted(
+        out,
         b"126, 255 among eight in ascii",
         Allowed::Ascii,
         b"A~A\xFFAAAAA",
         3,
     );
     counted(
+        out,
         b"32, 126, 128, 255, 127 in accented",
         Allowed::Accented,
         b" ~\x80\xFF\x7F",
         4,
     );
-    counted(b"255, 31 in accented", Allowed::Accented, b"\xFF\x1F", 1);
     counted(
+        out,
+        b"255, 31 in accented",
+        Allowed::Accented,
+        b"\xFF\x1F",
+        1,
+    );
+    counted(
+        out,
         b"255, 128, 127 among eight in accented",
         Allowed::Accented,
         b"\xFF\xFF\x80\x80\xFF\x7F\xFF\xFF\xFF",
         5,
     );
     counted(
+        out,
         b"255, 128, 0 among eight in accented",
         Allowed::Accented,
         b"\xFF\x80\xFF\x80\xFF\x80\xFF\0\xFF",
@@ -127,29 +160,34 @@ fn characters() {
 fn shown_is(b: u8, count: usize, want: &[u8; 4]) -> bool {
     let mut d = [0u8; 4];
     match put_shown(&mut d, b) {
-        Laid::Wrote(n) => n == count && check::same(&d, want),
+        Laid::Wrote(n) => n == count && d == *want,
         Laid::BadText => false,
         Laid::NoRoom(_) => false,
     }
 }
 
-fn shown() {
-    say(b"e acute, 233, shown as C3 A9:");
-    judge(shown_is(0xE9, 2, b"\xC3\xA9\0\0"));
-    say(b"the first of Latin-1, 160, shown as C2 A0:");
-    judge(shown_is(0xA0, 2, b"\xC2\xA0\0\0"));
-    say(b"the last, 255, shown as C3 BF:");
-    judge(shown_is(0xFF, 2, b"\xC3\xBF\0\0"));
-    say(b"a control, 155, shown as \\x9B:");
-    judge(shown_is(0x9B, 4, b"\\x9B"));
-    say(b"a backslash shown as two:");
-    judge(shown_is(0x5C, 2, b"\\\\\0\0"));
+fn shown(out: &mut Out) {
+    say(out, b"e acute, 233, shown as C3 A9:");
+    judge(out, shown_is(0xE9, 2, b"\xC3\xA9\0\0"));
+    say(out, b"the first of Latin-1, 160, shown as C2 A0:");
+    judge(out, shown_is(0xA0, 2, b"\xC2\xA0\0\0"));
+    say(out, b"the last, 255, shown as C3 BF:");
+    judge(out, shown_is(0xFF, 2, b"\xC3\xBF\0\0"));
+    say(out, b"a control, 155, shown as \\x9B:");
+    judge(out, shown_is(0x9B, 4, b"\\x9B"));
+    say(out, b"a backslash shown as two:");
+    judge(out, shown_is(0x5C, 2, b"\\\\\0\0"));
 }
 
-fn main() {
-    sums_of_runs();
-    sums_of_messages();
-    decimals();
-    characters();
-    shown();
+fn main(rt: HostRuntime) -> io::Result<()> {
+    let mut out = Out {
+        stdout: rt.stdout(),
+        result: Ok(()),
+    };
+    sums_of_runs(&mut out);
+    sums_of_messages(&mut out);
+    decimals(&mut out);
+    characters(&mut out);
+    shown(&mut out);
+    out.result
 }

@@ -13,13 +13,14 @@
 // A line that begins with # is passed over.
 #![tactic(auto)]
 
-use libc::{STDIN_FILENO, STDOUT_FILENO};
 use message::ask::{Asked, ask_number, ask_number_of, ask_text, text};
 use message::read::{Reading, body, comp_id, map, read};
 use message::refusal::Refusal;
 use session::day::{Connected, Made};
 use session::state::{Row, Send, Session, State, Stepped};
 use spelt::put_shown;
+use std::io;
+use std::io::{Read, Stdout};
 use tables::dictionary::Field;
 use tables::table::EXECUTION_REPORT;
 use wire::decimal::put_decimal;
@@ -27,100 +28,111 @@ use wire::map::MAP_BYTES;
 use wire::number::read_u64;
 use writer::write::{Written, write};
 
-fn say(text: &[u8]) {
-    io::write_all(STDOUT_FILENO, text);
+// Standard output, and how writing to it went: after the first failure nothing more is written.
+#[derive(Drop)]
+struct Out {
+    stdout: Stdout,
+    result: io::Result<()>,
 }
 
-fn say_number(n: u64) {
-    io::print_decimal(STDOUT_FILENO, n);
+fn say(out: &mut Out, text: &[u8]) {
+    if out.result.is_ok() {
+        out.result = out.stdout.write_all(text);
+    }
+}
+
+fn say_number(out: &mut Out, n: u64) {
+    if out.result.is_ok() {
+        out.result = out.stdout.print(n);
+    }
 }
 
 // A Decimal as its count of hundred-millionths: the upper half of the 64-bit numbers stands for the negative ones.
-fn say_signed(z: i64) {
+fn say_signed(out: &mut Out, z: i64) {
     let mut d = [0u8; 8];
     put_decimal(&mut d, z);
     let n = read_u64(&d);
     if n < 9223372036854775808 {
-        say_number(n);
+        say_number(out, n);
     } else {
-        say(b"-");
-        say_number(18446744073709551615 - n + 1);
+        say(out, b"-");
+        say_number(out, 18446744073709551615 - n + 1);
     }
 }
 
-fn say_refusal(refusal: Refusal) {
-    say(b"refused ");
-    say_number(refusal.number() as u64);
-    say(b" besides ");
-    say_number(refusal.besides() as u64);
+fn say_refusal(out: &mut Out, refusal: Refusal) {
+    say(out, b"refused ");
+    say_number(out, refusal.number() as u64);
+    say(out, b" besides ");
+    say_number(out, refusal.besides() as u64);
 }
 
-fn say_asked(asked: Asked) {
+fn say_asked(out: &mut Out, asked: Asked) {
     match asked {
         Asked::Number(n) => {
-            say(b"number ");
-            say_number(n);
+            say(out, b"number ");
+            say_number(out, n);
         }
         Asked::Decimal(z) => {
-            say(b"decimal ");
-            say_signed(z);
+            say(out, b"decimal ");
+            say_signed(out, z);
         }
         Asked::Text(n) => {
-            say(b"text of ");
-            say_number(n as u64);
+            say(out, b"text of ");
+            say_number(out, n as u64);
         }
-        Asked::Refused(refusal) => say_refusal(refusal),
+        Asked::Refused(refusal) => say_refusal(out, refusal),
     }
 }
 
-fn say_reading(s: &[u8]) {
+fn say_reading(out: &mut Out, s: &[u8]) {
     match read(s) {
         Reading::Good { header, length } => {
-            say(b"type ");
-            say_number(header.messagetype as u64);
-            say(b" number ");
-            say_number(header.number as u64);
-            say(b" possdup ");
-            say_number(header.possdup as u64);
-            say(b" possresend ");
-            say_number(header.possresend as u64);
-            say(b" length ");
-            say_number(length as u64);
-            say(b" comp ");
-            say(comp_id(s));
+            say(out, b"type ");
+            say_number(out, header.messagetype as u64);
+            say(out, b" number ");
+            say_number(out, header.number as u64);
+            say(out, b" possdup ");
+            say_number(out, header.possdup as u64);
+            say(out, b" possresend ");
+            say_number(out, header.possresend as u64);
+            say(out, b" length ");
+            say_number(out, length as u64);
+            say(out, b" comp ");
+            say(out, comp_id(s));
             if header.messagetype == EXECUTION_REPORT {
-                say_shares(s);
+                say_shares(out, s);
             }
         }
-        Reading::Refused(refusal) => say_refusal(refusal),
+        Reading::Refused(refusal) => say_refusal(out, refusal),
     }
 }
 
-fn say_shares(s: &[u8]) {
-    say(b" filled ");
-    say_asked(ask_number_of(s, Field::CumulativeQuantity));
-    say(b" open ");
-    say_asked(ask_number_of(s, Field::LeavesQuantity));
+fn say_shares(out: &mut Out, s: &[u8]) {
+    say(out, b" filled ");
+    say_asked(out, ask_number_of(s, Field::CumulativeQuantity));
+    say(out, b" open ");
+    say_asked(out, ask_number_of(s, Field::LeavesQuantity));
 }
 
-fn say_text(s: &[u8], p: usize) {
-    say_asked(ask_text(s, p));
-    say(b" [");
-    say_shown(text(s, p));
-    say(b"]");
+fn say_text(out: &mut Out, s: &[u8], p: usize) {
+    say_asked(out, ask_text(s, p));
+    say(out, b" [");
+    say_shown(out, text(s, p));
+    say(out, b"]");
 }
 
-fn say_character(b: u8) {
+fn say_character(out: &mut Out, b: u8) {
     let mut shown = [0u8; 4];
     let laid = put_shown(&mut shown, b);
-    say(front(&shown, laid.besides()));
+    say(out, front(&shown, laid.besides()));
 }
 
 // A text's characters, each as a terminal shows it safely.
-fn say_shown(text: &[u8]) {
+fn say_shown(out: &mut Out, text: &[u8]) {
     let mut i = 0;
     while i < text.len() {
-        say_character(text[i]);
+        say_character(out, text[i]);
         i += 1;
     }
 }
@@ -212,21 +224,23 @@ fn small(s: &[u8]) -> u32 {
     (number(s) % 4294967296) as u32
 }
 
-fn run_read(words: &[u8]) {
+fn run_read(out: &mut Out, words: &[u8]) {
     let b = decode(words);
     let n = b.count;
     let all = b.all;
-    say_reading(front(&all, n));
+    say_reading(out, front(&all, n));
 }
 
-fn say_byte(b: u8) {
-    io::print_hex(STDOUT_FILENO, b as u64, 2);
+fn say_byte(out: &mut Out, b: u8) {
+    if out.result.is_ok() {
+        out.result = out.stdout.print(format_args!("{b:02x}"));
+    }
 }
 
-fn say_hex(s: &[u8]) {
+fn say_hex(out: &mut Out, s: &[u8]) {
     let mut i = 0;
     while i < s.len() {
-        say_byte(s[i]);
+        say_byte(out, s[i]);
         i += 1;
     }
 }
@@ -246,199 +260,205 @@ fn map_bytes(s: &[u8]) -> [u8; MAP_BYTES] {
 }
 
 // The message at the front of s, read and written again.
-fn say_plain(s: &[u8]) {
+fn say_plain(out: &mut Out, s: &[u8]) {
     match read(s) {
         Reading::Good { header, length: _ } => {
             let mut d = [0u8; 4096];
             let m = map_bytes(map(s));
             match write(&mut d, header, comp_id(s), &m, body(s)) {
-                Written::Wrote(n) => say_hex(front(&d, n)),
-                Written::Refused(refusal) => say_refusal(refusal),
+                Written::Wrote(n) => say_hex(out, front(&d, n)),
+                Written::Refused(refusal) => say_refusal(out, refusal),
             }
         }
-        Reading::Refused(refusal) => say_refusal(refusal),
+        Reading::Refused(refusal) => say_refusal(out, refusal),
     }
 }
 
-fn run_plain(words: &[u8]) {
+fn run_plain(out: &mut Out, words: &[u8]) {
     let b = decode(words);
     let n = b.count;
     let all = b.all;
-    say_plain(front(&all, n));
+    say_plain(out, front(&all, n));
 }
 
-fn run_number(words: &[u8]) {
+fn run_number(out: &mut Out, words: &[u8]) {
     let j = before(words, b' ');
     let b = decode(from(from(words, j), 1));
     let n = b.count;
     let all = b.all;
-    say_asked(ask_number(front(&all, n), number(front(words, j)) as usize));
+    say_asked(
+        out,
+        ask_number(front(&all, n), number(front(words, j)) as usize),
+    );
 }
 
-fn run_text(words: &[u8]) {
+fn run_text(out: &mut Out, words: &[u8]) {
     let j = before(words, b' ');
     let b = decode(from(from(words, j), 1));
     let n = b.count;
     let all = b.all;
-    say_text(front(&all, n), number(front(words, j)) as usize);
+    say_text(out, front(&all, n), number(front(words, j)) as usize);
 }
 
-fn say_send(send: Send) {
+fn say_send(out: &mut Out, send: Send) {
     match send {
-        Send::Nothing => say(b"none"),
+        Send::Nothing => say(out, b"none"),
         Send::Heartbeat(n, id) => {
-            say(b"heartbeat ");
-            say_pair(n, id as u32);
+            say(out, b"heartbeat ");
+            say_pair(out, n, id as u32);
         }
         Send::Logout(n) => {
-            say(b"logout ");
-            say_number(n as u64);
+            say(out, b"logout ");
+            say_number(out, n as u64);
         }
         Send::GapFill(n, new) => {
-            say(b"fill ");
-            say_pair(n, new);
+            say(out, b"fill ");
+            say_pair(out, n, new);
         }
         Send::ResendRequest(n, start, end) => {
-            say(b"resend ");
-            say_number(n as u64);
-            say(b" ");
-            say_pair(start, end);
+            say(out, b"resend ");
+            say_number(out, n as u64);
+            say(out, b" ");
+            say_pair(out, start, end);
         }
     }
 }
 
-fn say_pair(a: u32, b: u32) {
-    say_number(a as u64);
-    say(b" ");
-    say_number(b as u64);
+fn say_pair(out: &mut Out, a: u32, b: u32) {
+    say_number(out, a as u64);
+    say(out, b" ");
+    say_number(out, b as u64);
 }
 
-fn say_row(row: Row) {
+fn say_row(out: &mut Out, row: Row) {
     match row {
-        Row::Nothing => say(b"none"),
+        Row::Nothing => say(out, b"none"),
         Row::Business(n) => {
-            say(b"business ");
-            say_pair(n, n);
+            say(out, b"business ");
+            say_pair(out, n, n);
         }
         Row::Session(n) => {
-            say(b"session ");
-            say_pair(n, n);
+            say(out, b"session ");
+            say_pair(out, n, n);
         }
         Row::Filled(first, last) => {
-            say(b"filled ");
-            say_pair(first, last);
+            say(out, b"filled ");
+            say_pair(out, first, last);
         }
         Row::Reset(first, last) => {
-            say(b"reset ");
-            say_pair(first, last);
+            say(out, b"reset ");
+            say_pair(out, first, last);
         }
     }
 }
 
-fn say_state(state: State) {
+fn say_state(out: &mut Out, state: State) {
     match state {
-        State::Down => say(b"Down "),
-        State::Waiting => say(b"Waiting "),
-        State::Live => say(b"Live "),
+        State::Down => say(out, b"Down "),
+        State::Waiting => say(out, b"Waiting "),
+        State::Live => say(out, b"Live "),
     }
 }
 
 // The state, E, O, M and how often it was asked again from this E.
-fn say_session(s: Session) {
-    say_state(s.state());
-    say_pair(s.expected(), s.own());
-    say(b" ");
-    say_pair(s.ahead(), s.repeats());
+fn say_session(out: &mut Out, s: Session) {
+    say_state(out, s.state());
+    say_pair(out, s.expected(), s.own());
+    say(out, b" ");
+    say_pair(out, s.ahead(), s.repeats());
 }
 
-fn made(m: Made) -> Session {
+fn made(out: &mut Out, m: Made) -> Session {
     let s = m.session;
-    say(b"code ");
+    say(out, b"code ");
     let code = m.code;
-    say_number(code.number() as u64);
-    say(b": ");
-    say_session(s);
+    say_number(out, code.number() as u64);
+    say(out, b": ");
+    say_session(out, s);
     s
 }
 
-fn connected(c: Connected) -> Session {
+fn connected(out: &mut Out, c: Connected) -> Session {
     let s = c.session;
-    say(b"code ");
+    say(out, b"code ");
     let code = c.code;
-    say_number(code.number() as u64);
-    say(b" logon ");
-    say_pair(c.number, c.next);
-    say(b": ");
-    say_session(s);
+    say_number(out, code.number() as u64);
+    say(out, b" logon ");
+    say_pair(out, c.number, c.next);
+    say(out, b": ");
+    say_session(out, s);
     s
 }
 
-fn stepped(t: Stepped) -> Session {
+fn stepped(out: &mut Out, t: Stepped) -> Session {
     let s = t.session;
     let answer = t.answer;
     let first = answer.first;
     let second = answer.second;
     let row = answer.row;
-    say(b"code ");
+    say(out, b"code ");
     let code = answer.code;
-    say_number(code.number() as u64);
-    say(b" send ");
-    say_send(first);
-    say(b", ");
-    say_send(second);
-    say(b" row ");
-    say_row(row);
-    say(b": ");
-    say_session(s);
+    say_number(out, code.number() as u64);
+    say(out, b" send ");
+    say_send(out, first);
+    say(out, b", ");
+    say_send(out, second);
+    say(out, b" row ");
+    say_row(out, row);
+    say(out, b": ");
+    say_session(out, s);
     s
 }
 
-fn dropped(s: Session) -> Session {
+fn dropped(out: &mut Out, s: Session) -> Session {
     let down = s.drop();
-    say_session(down);
+    say_session(out, down);
     down
 }
 
-fn run_saved(words: &[u8]) -> Session {
+fn run_saved(out: &mut Out, words: &[u8]) -> Session {
     let j = before(words, b' ');
     let rest = from(from(words, j), 1);
     let k = before(rest, b' ');
-    made(Session::saved(
-        from(from(rest, k), 1),
-        small(front(words, j)),
-        small(front(rest, k)),
-    ))
+    made(
+        out,
+        Session::saved(
+            from(from(rest, k), 1),
+            small(front(words, j)),
+            small(front(rest, k)),
+        ),
+    )
 }
 
-fn run_step(s: Session, words: &[u8]) -> Session {
+fn run_step(out: &mut Out, s: Session, words: &[u8]) -> Session {
     let b = decode(words);
     let n = b.count;
     let all = b.all;
-    stepped(s.step(front(&all, n)))
+    stepped(out, s.step(front(&all, n)))
 }
 
-fn read_line(s: Session, words: &[u8]) -> Session {
-    run_read(words);
+fn read_line(out: &mut Out, s: Session, words: &[u8]) -> Session {
+    run_read(out, words);
     s
 }
 
-fn plain_line(s: Session, words: &[u8]) -> Session {
-    run_plain(words);
+fn plain_line(out: &mut Out, s: Session, words: &[u8]) -> Session {
+    run_plain(out, words);
     s
 }
 
-fn number_line(s: Session, words: &[u8]) -> Session {
-    run_number(words);
+fn number_line(out: &mut Out, s: Session, words: &[u8]) -> Session {
+    run_number(out, words);
     s
 }
 
-fn text_line(s: Session, words: &[u8]) -> Session {
-    run_text(words);
+fn text_line(out: &mut Out, s: Session, words: &[u8]) -> Session {
+    run_text(out, words);
     s
 }
 
 // One line, without its end, by its first letter: a word, and what goes with it. The session after it.
-fn run(s: Session, line: &[u8]) -> Session {
+fn run(out: &mut Out, s: Session, line: &[u8]) -> Session {
     if line.len() == 0 {
         return s;
     }
@@ -448,28 +468,28 @@ fn run(s: Session, line: &[u8]) -> Session {
     }
     let words = from(from(line, before(line, b' ')), 1);
     let next = match word {
-        b'r' => read_line(s, words),
-        b'p' => plain_line(s, words),
-        b'n' => number_line(s, words),
-        b't' => text_line(s, words),
-        b'f' => made(Session::fresh(words)),
-        b's' => run_saved(words),
-        b'c' => connected(s.connect(words)),
-        b'd' => dropped(s),
-        b'u' => run_step(s, words),
+        b'r' => read_line(out, s, words),
+        b'p' => plain_line(out, s, words),
+        b'n' => number_line(out, s, words),
+        b't' => text_line(out, s, words),
+        b'f' => made(out, Session::fresh(words)),
+        b's' => run_saved(out, words),
+        b'c' => connected(out, s.connect(words)),
+        b'd' => dropped(out, s),
+        b'u' => run_step(out, s, words),
         _ => s,
     };
-    say(b"\n");
+    say(out, b"\n");
     next
 }
 
-fn run_lines(input: &[u8]) {
+fn run_lines(out: &mut Out, input: &[u8]) {
     let first = Session::fresh(b"");
     let mut s = first.session;
     let mut rest = input;
     while 0 < rest.len() {
         let k = before(rest, b'\n');
-        s = run(s, front(rest, k));
+        s = run(out, s, front(rest, k));
         if rest.len() <= k {
             return;
         }
@@ -478,8 +498,16 @@ fn run_lines(input: &[u8]) {
     }
 }
 
-fn main() {
-    let mut input = [0u8; 65536];
-    let got = io::read_full(STDIN_FILENO, &mut input);
-    run_lines(front(&input, got));
+// The most that is read of the lines.
+const INPUT_BYTES: u64 = 65536;
+
+fn main(rt: HostRuntime) -> io::Result<()> {
+    let mut input = Vec::new(rt.alloc());
+    rt.stdin().take(INPUT_BYTES).read_to_end(&mut input)?;
+    let mut out = Out {
+        stdout: rt.stdout(),
+        result: Ok(()),
+    };
+    run_lines(&mut out, &input);
+    out.result
 }
