@@ -203,9 +203,9 @@ ends {e = e} (past {b = b} {bs = bs} p w) s i j h m l =
 pub reached-all : {s : Session} (es : List Event) → Reached s → Reached (after_all s es)
 unfolding after_all after
 reached-all [] g = g
-reached-all (lends b ∷ es) g = reached-all es (follows g (stepped b))
-reached-all (drops ∷ es) g = reached-all es (follows g dropped)
-reached-all (connects password ∷ es) g = reached-all es (follows g (connected password))
+reached-all {s = s} (lends b ∷ es) g = reached-all {s = after s (lends b)} es (follows g (stepped b))
+reached-all {s = s} (drops ∷ es) g = reached-all {s = after s drops} es (follows g dropped)
+reached-all {s = s} (connects password ∷ es) g = reached-all {s = after s (connects password)} es (follows g (connected password))
 
 -- three messages past the hole, whatever stands between them: E has moved or the session is Down
 pub hole-ends : {s : Session} → Reached s → 1 ≤ s.ahead → (bs : List (List ℕ)) → Many s.ours s.expected (most_repeats + 1) bs

@@ -15,7 +15,7 @@
 --
 -- Gap fills. Supposed: the line is Live and expects a; a is below b, and b below c. Shown (`fills-join-lines`): bytes that are a gap fill from a to b, and
 -- then bytes that are one from b to c, leave the same line as bytes that are one from a to c, where all come at the same time.
-use Prim.Native.Nat.{ℕ, ◌-◌, ◌<◌, ◌≤◌}
+use Prim.Native.Nat.{ℕ, ◌+◌, ◌-◌, ◌<◌, ◌≤◌}
 use mathlib.Core.Path.{◌≡◌, refl, sym, ap, ap₂, ◌∙◌}
 use mathlib.Core.Bool.{false, ◌||◌}
 use mathlib.Core.List.{List, [], ◌∷◌, ◌++◌, append-nil, append_assoc}
@@ -137,12 +137,12 @@ record Parted (ours : List ℕ) (e : ℕ) (cs bs : List (List ℕ)) (f : ℕ) : 
 
 part-run : {ours : List ℕ} {e f : ℕ} (cs : List (List ℕ)) {bs : List (List ℕ)} → Run ours e (cs ++ bs) f → Parted ours e cs bs f
 part-run {e = e} [] u = record { at = e; first = done; others = u }
-part-run (b ∷ cs) (business r o d l c u) =
-    let x = part-run cs u in record { at = x.at; first = business r o d l c x.first; others = x.others }
-part-run (b ∷ cs) (heartbeat r o d l c u) =
-    let x = part-run cs u in record { at = x.at; first = heartbeat r o d l c x.first; others = x.others }
-part-run (b ∷ cs) (gap_fill r o d l c a u) =
-    let x = part-run cs u in record { at = x.at; first = gap_fill r o d l c a x.first; others = x.others }
+part-run {e = e} (b ∷ cs) (business r o d l c u) =
+    let x = part-run {e = e + 1} cs u in record { at = x.at; first = business r o d l c x.first; others = x.others }
+part-run {e = e} (b ∷ cs) (heartbeat r o d l c u) =
+    let x = part-run {e = e + 1} cs u in record { at = x.at; first = heartbeat r o d l c x.first; others = x.others }
+part-run (b ∷ cs) (gap_fill {new = new} r o d l c a u) =
+    let x = part-run {e = new} cs u in record { at = x.at; first = gap_fill r o d l c a x.first; others = x.others }
 
 run_end : {ours : List ℕ} {e f : ℕ} → Run ours e [] f → e ≡ f
 run_end done = refl

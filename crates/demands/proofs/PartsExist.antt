@@ -383,7 +383,7 @@ writable-drop : {comp_id : List ℕ} {n : ℕ} (k : ℕ) (xs : List Outgoing) �
 writable-drop {comp_id = comp_id} {n = n} zero xs w = rw add-zero w
 writable-drop (suc k) [] done = done
 writable-drop {comp_id = comp_id} {n = n} (suc k) (x ∷ xs) (more y w) =
-    let e : n + 1 + k ≡ n + suc k = omega arith in subst (λ (m : ℕ). AllWritable comp_id m (drop k xs)) e (writable-drop k xs w)
+    let e : n + 1 + k ≡ n + suc k = omega arith in subst (λ (m : ℕ). AllWritable comp_id m (drop k xs)) e (writable-drop {n = n + 1} k xs w)
 
 -- what `write` leaves of the parts of the plan from e to the end are its parts sent
 pub parts-exist : (ours comp_id d : List ℕ) (xs : List Outgoing) (e : ℕ) → comp_id ≡ fixed_part Ascii comp_id_bytes ours → AllWritable comp_id 1 xs

@@ -14,7 +14,6 @@ use native.Mathlib.Omega.{arith}
 use lib.Dec.{eqb}
 use lib.ListN.{length, take, drop}
 use lib.Seq.{drop-drop}
-use Rattle.wire.proofs.TestLaws.{either}
 use Rattle.message.specs.declared.read.Reading.{Reading}
 use Rattle.message.specs.declared.read.Reading.TheVariants as reading
 use Rattle.message.specs.Frame.{front_length}
@@ -27,28 +26,10 @@ use Rattle.session.specs.declared.state.Session.{Session}
 use Rattle.session.specs.declared.state.Stepped.{Stepped}
 use Rattle.session.specs.declared.state.State.{State}
 use Rattle.session.specs.declared.state.State.TheVariants.{Down, Waiting, Live}
-use Rattle.calls.specs.declared.Ended.{Ended}
 use Rattle.session.specs.Arrival.{arrival_of}
 use Rattle.session.specs.Day.{step}
 use Rattle.session.specs.State.{code_number, sort_number}
-use Rattle.calls.specs.Steps.{
-  Placed,
-  row_at,
-  Did,
-  joined,
-  next_of,
-  step_done,
-  fits,
-  turn_by,
-  turn_of,
-  and_then,
-  follow,
-  turns,
-  course,
-  refusal_in,
-  called_by,
-  called,
-}
+use Rattle.calls.specs.Steps.{Placed, row_at, joined, next_of, step_done, fits, turn_by, turn_of, and_then, follow, turns, course, refusal_in, called_by, called}
 use Rattle.session.proofs.Effect.{Moves, still, business, session, filled, reset, step-effect, good-arrives}
 use Rattle.session.proofs.FrontLaws.{front-good}
 use Rattle.demands.specs.Content.{Content, said}

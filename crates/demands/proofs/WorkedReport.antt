@@ -1,6 +1,6 @@
 -- The worked day goes on: number 10 comes while 8 is expected, so that 8 is asked for and M stands at 10; then 8, an execution report, a gap fill over 9 and
 -- 10 come as an unbroken run. Both halves of demand 3 apply to it, from the session as the worked day left it.
-use Prim.Native.Nat.{ℕ, ◌+◌, ◌-◌, ◌<◌, ◌≤◌}
+use Prim.Native.Nat.{ℕ, ◌-◌, ◌<◌, ◌≤◌}
 use mathlib.Core.Path.{◌≡◌, refl, sym, ap, subst, ◌∙◌}
 use mathlib.Core.List.{List, [], ◌∷◌, ◌++◌}
 use native.Mathlib.Omega.{arith}
