@@ -56,5 +56,5 @@ returns c =
     let s = c.args.s.now in
     let n = c.read_u16-length.result in
     let f = framed-on s _ n c.if-s-lt-TYPE_AT.false c.if-s-ne-STX.false c.part.ensures c.read_u16-length.ensures in
-    let g = framed-sum n s _ _ _ _ c.if-length-lt-FRAME_BYTES.false (c.if-length-gt-LONGEST.false) c.if-s-length.false c.part-2.ensures c.crc32c.ensures c.part-3.ensures c.read_u32.ensures in
-    sym (f ∙ g ∙ simp (eq-eqb _ _ c.if-crc32c-read_u32.false))
+    let sum = framed-sum n s _ _ _ _ c.if-length-lt-FRAME_BYTES.false (c.if-length-gt-LONGEST.false) c.if-s-length.false c.part-2.ensures c.crc32c.ensures c.part-3.ensures c.read_u32.ensures in
+    sym (f ∙ sum ∙ simp (eq-eqb _ _ c.if-crc32c-read_u32.false))

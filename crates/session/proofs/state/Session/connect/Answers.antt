@@ -19,10 +19,11 @@ returns-then-o c = simp (c.not_connected-then-o.ensures, c.in-Down.is, eq-eqb _ 
 pub returns-then-not-takes_text : goal.returns-then-not-takes_text
 unfolding connect connect_in
 returns-then-not-takes_text c =
+    let left = ne_eqb _ _ c.if-o.false in
     simp (
       c.not_connected-then-not-takes_text.ensures,
       c.in-Down.is,
-      ne_eqb _ _ c.if-o.false,
+      left,
       ← c.sort_of.ensures,
       ← c.width.ensures,
       sym c.takes_text.ensures ∙ c.if-not-takes_text.true,
@@ -31,10 +32,11 @@ returns-then-not-takes_text c =
 pub returns : goal.returns
 unfolding connect connect_in
 returns c =
+    let number = ne_eqb _ _ c.if-o.false in
     simp (
       c.moved.ensures,
       c.in-Down.is,
-      ne_eqb _ _ c.if-o.false,
+      number,
       ← c.sort_of.ensures,
       ← c.width.ensures,
       sym c.takes_text.ensures ∙ c.if-not-takes_text.false,
