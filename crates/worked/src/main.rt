@@ -13,6 +13,8 @@
 // A line that begins with # is passed over.
 #![tactic(auto)]
 
+ghost use Rattle.std.specs.Prelude.{◌≤◌, length};
+
 use message::ask::{Asked, ask_number, ask_number_of, ask_text, text};
 use message::read::{Reading, body, comp_id, map, read};
 use message::refusal::Refusal;
@@ -20,7 +22,7 @@ use session::day::{Connected, Made};
 use session::state::{Row, Send, Session, State, Stepped};
 use spelt::put_shown;
 use std::io;
-use std::io::{Read, Stdout};
+use std::io::{Read, Stdin, Stdout};
 use tables::dictionary::Field;
 use tables::table::EXECUTION_REPORT;
 use wire::decimal::put_decimal;
@@ -498,16 +500,28 @@ fn run_lines(out: &mut Out, input: &[u8]) {
     }
 }
 
-// The most that is read of the lines.
-const INPUT_BYTES: u64 = 65536;
+// Reads until d is full, the input ends or a read fails; how many bytes were read.
+fn fill(mut stdin: Stdin, d: &mut [u8]) -> usize
+    ensures { result ≤ length d.new }
+{
+    let mut done = 0;
+    while done < d.len() {
+        match stdin.read(&mut d[done..]) {
+            Ok(0) => break,
+            Ok(n) => done += n,
+            Err(_) => break,
+        }
+    }
+    done
+}
 
 fn main(rt: HostRuntime) -> io::Result<()> {
-    let mut input = Vec::new(rt.alloc());
-    rt.stdin().take(INPUT_BYTES).read_to_end(&mut input)?;
+    let mut input = [0u8; 65536];
+    let got = fill(rt.stdin(), &mut input);
     let mut out = Out {
         stdout: rt.stdout(),
         result: Ok(()),
     };
-    run_lines(&mut out, &input);
+    run_lines(&mut out, front(&input, got));
     out.result
 }
