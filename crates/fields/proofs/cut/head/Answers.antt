@@ -16,4 +16,4 @@ returns c =
     let h : 8 ≤ length m = omega arith in
     ap₂ (λ (x y : ℕ). x * 4294967296 + y) (ap₂ (λ (x y : ℕ). x * 65536 + y) c.big.ensures.0 c.big-2.ensures.0)
     (ap₂ (λ (x y : ℕ). x * 65536 + y) c.big-3.ensures.0 c.big-4.ensures.0)
-    ∙ head-halves m (λ i. (c.shared_slice_known-1.given i).fits) h
+    ∙ head-halves m (λ i. (c.type_inv.map i).fits) h

@@ -33,7 +33,10 @@ returns-then-length-lt-FRAME_BYTES c =
     let s = c.args.s.now in
     let n = c.read_u16-length.result in
     let f = framed-on s _ n c.if-s-lt-TYPE_AT.false c.if-s-ne-STX.false c.part.ensures c.read_u16-length.ensures in
-    elim c.then-length-lt-FRAME_BYTES.branch [ then-length-lt-FRAME_BYTES-via-then-length-lt-FRAME_BYTES w ↦ sym (f ∙ simp (lt-leb 58 n w.if-length-lt-FRAME_BYTES.true)) | then-length-lt-FRAME_BYTES-via-else-length-lt-FRAME_BYTES+then-length-gt-LONGEST w ↦ sym (f ∙ simp (le-leb 58 n w.if-length-lt-FRAME_BYTES.false, lt-leb n 4096 w.if-length-gt-LONGEST.true)) ]
+    elim c.then-length-lt-FRAME_BYTES.branch [
+      | then-length-lt-FRAME_BYTES-via-then-length-lt-FRAME_BYTES w ↦ sym (f ∙ simp (lt-leb 58 n w.if-length-lt-FRAME_BYTES.true))
+      | then-length-lt-FRAME_BYTES-via-else-length-lt-FRAME_BYTES+then-length-gt-LONGEST w ↦ sym (f ∙ simp (le-leb 58 n w.if-length-lt-FRAME_BYTES.false, lt-leb n 4096 w.if-length-gt-LONGEST.true))
+    ]
 
 pub returns-then-s-length : goal.returns-then-s-length
 unfolding framed_by

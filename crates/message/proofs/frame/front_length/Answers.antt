@@ -16,7 +16,10 @@ returns-then-n-lt-FRAME_BYTES c =
     let s = c.args.s.now in
     let n = c.read_u16-n.result in
     let f = front_by s n (framed-on s _ n c.if-s-lt-TYPE_AT.false c.if-s-ne-STX.false c.part.ensures c.read_u16-n.ensures) in
-    elim c.then-n-lt-FRAME_BYTES.branch [ then-n-lt-FRAME_BYTES-via-then-n-lt-FRAME_BYTES w ↦ sym (f ∙ simp (lt-leb 58 n w.if-n-lt-FRAME_BYTES.true)) | then-n-lt-FRAME_BYTES-via-else-n-lt-FRAME_BYTES+then-n-gt-LONGEST w ↦ sym (f ∙ simp (le-leb 58 n w.if-n-lt-FRAME_BYTES.false, lt-leb n 4096 w.if-n-gt-LONGEST.true)) ]
+    elim c.then-n-lt-FRAME_BYTES.branch [
+      | then-n-lt-FRAME_BYTES-via-then-n-lt-FRAME_BYTES w ↦ sym (f ∙ simp (lt-leb 58 n w.if-n-lt-FRAME_BYTES.true))
+      | then-n-lt-FRAME_BYTES-via-else-n-lt-FRAME_BYTES+then-n-gt-LONGEST w ↦ sym (f ∙ simp (le-leb 58 n w.if-n-lt-FRAME_BYTES.false, lt-leb n 4096 w.if-n-gt-LONGEST.true))
+    ]
 
 pub returns-then-s-n : goal.returns-then-s-n
 returns-then-s-n c =

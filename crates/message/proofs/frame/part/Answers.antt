@@ -8,7 +8,10 @@ use Rattle.message.proofs.frame.part.Goals.{then-s-end-via-then-s-end, then-s-en
 pub returns-then-s-end : goal.returns-then-s-end
 returns-then-s-end c =
     let a = c.args in
-    elim c.then-s-end.branch [ then-s-end-via-then-s-end w ↦ sym (part-short a.from a.end a.s.now w.if-s-end.true) | then-s-end-via-else-s-end+then-end-from w ↦ sym (part-backwards a.from a.end a.s.now w.if-end-from.true) ]
+    elim c.then-s-end.branch [
+      | then-s-end-via-then-s-end w ↦ sym (part-short a.from a.end a.s.now w.if-s-end.true)
+      | then-s-end-via-else-s-end+then-end-from w ↦ sym (part-backwards a.from a.end a.s.now w.if-end-from.true)
+    ]
 
 pub returns : goal.returns
 returns c =
