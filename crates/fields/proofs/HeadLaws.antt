@@ -8,7 +8,7 @@ use native.Mathlib.Omega.{arith}
 use lib.Bits.{bit_and, and_mask}
 use lib.Count.{count_leading_zeros, leading_unique}
 use lib.ListN.{length, get_or}
-use lib.Pow.{pow_pos, pow-add, mod-pow-add, ones_split, ones_lt, high, low}
+use lib.Pow.{pow_pos, pow-add, ones_split, ones_lt, high, low}
 use borrow.Author.Tests.{eqb-true, eqb-false, le-leb, lt-leb}
 use Rattle.wire.specs.Map.{bit_at, present}
 use Rattle.wire.proofs.MapLaws.{present-at, with-place}

@@ -1,21 +1,19 @@
 -- The quick tests of a map: no unknown position, no missing one.
-use mathlib.Core.Path.{◌≡◌, refl, sym, ap, ◌∙◌}
-use mathlib.Core.Bool.{Bool, true, false, cond, not}
+use mathlib.Core.Path.{◌≡◌, refl, ap, ◌∙◌}
+use mathlib.Core.Bool.{Bool, true, false, not}
 use mathlib.Core.List.{List}
-use Prim.Native.Nat.{ℕ, ◌≤◌, ◌<◌}
-use native.Mathlib.Omega.{arith}
+use Prim.Native.Nat.{ℕ, ◌<◌}
 use borrow.Author.Tests.{ltb-true, ltb-false}
 use lib.Bits.{bit_and}
 use lib.Dec.{ltb}
 use lib.ListN.{take}
-use Rattle.wire.specs.Map.{present}
 use Rattle.wire.specs.Number.{Bytes, number}
 use Rattle.tables.specs.Line.{is_required}
 use Rattle.tables.specs.Tables.{row_of}
 use Rattle.fields.specs.declared.sets.Place.TheVariants.{Nowhere}
 use Rattle.fields.specs.Sets.{unknown_to, unknown_at, missing_at, lowest_unknown, lowest_missing}
 use Rattle.fields.specs.Words.{Holds, ClearFrom, required_by}
-use Rattle.fields.proofs.SetsLaws.{NoneBelow, first-none, place_none, missing-end, unknown-clear, unknown-known, missing-optional, missing-required}
+use Rattle.fields.proofs.SetsLaws.{first-none, place_none, missing-end, unknown-clear, unknown-known, missing-optional, missing-required}
 use Rattle.fields.proofs.SpanLaws.{span-low}
 use Rattle.fields.proofs.WordLaws.{apart, shared}
 

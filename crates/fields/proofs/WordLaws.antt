@@ -1,16 +1,16 @@
 -- A map's bits in the numbers that its bytes stand for, eight at a time; and the table of a set, held against the definitions by one test that is
 -- computed.
 use mathlib.Core.Path.{◌≡◌, refl, sym, ap, ap₂, subst, ◌∙◌}
-use mathlib.Core.Bool.{Bool, true, false, cond, not, ◌&&◌}
+use mathlib.Core.Bool.{Bool, true, false, cond, ◌&&◌}
 use mathlib.Core.List.{List, [], ◌∷◌}
 use Prim.Native.Nat.{ℕ, zero, suc, ◌+◌, ◌-◌, ◌*◌, ◌/◌, ◌%◌, ◌^◌, ◌≤◌, ◌<◌}
-use native.Mathlib.Nat.{mod-lt, zero-lt-suc, add_comm, zero-div, div-one}
+use native.Mathlib.Nat.{add_comm, zero-div, div-one}
 use native.Mathlib.Omega.{arith}
 use borrow.Author.Tests.{eqb-true, eqb-false, ltb-true, ltb-false}
 use lib.Arith.{digits_div, digits_mod}
 use lib.Bits.{bit_and, and_shr, and_mod, and_le_l}
 use lib.Dec.{T, eqb, eqb→eq, ltb}
-use lib.ListN.{length, get_or, take, drop}
+use lib.ListN.{get_or, take, drop}
 use lib.Pow.{field, mod-mod-pow, shr-shr}
 use lib.Seq.{get_or-take, get_or-drop}
 use Rattle.wire.specs.Map.{bit_at, present}

@@ -1,11 +1,8 @@
 -- `fields::check::check_at` meets its contract: a report by its shape, any other type by its row.
 use mathlib.Core.Path.{sym, ap, ◌∙◌}
 use Prim.Native.Nat.{ℕ}
-use borrow.Author.Rules.{rules}
 use Rattle.tables.specs.Tables.{row_of}
 use Rattle.fields.specs.Check.{check_row}
-use Rattle.fields.proofs.check.check_report.Reads as check-report-reads
-use Rattle.fields.proofs.check.check_row.Reads as check-named-reads
 use Rattle.fields.proofs.check.check_at.Goals as goal
 
 pub returns-then-messagetype-eq-EXECUTION_REPORT : goal.returns-then-messagetype-eq-EXECUTION_REPORT

@@ -1,5 +1,4 @@
 -- `fields::check::check_fixed` meets its contract: the text reader's answer decides.
-use borrow.Author.Rules.{rules}
 use mathlib.Core.Path.{sym, ap, ◌∙◌}
 use Rattle.fields.specs.Check.{fixed_taken, fixed}
 use Rattle.fields.proofs.check.check_fixed.Goals as goal

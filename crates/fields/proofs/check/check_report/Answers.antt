@@ -2,7 +2,6 @@
 use mathlib.Core.Path.{sym, ◌∙◌}
 use Rattle.tables.specs.Tables.{row_of}
 use Rattle.fields.proofs.ShapeLaws.{shape-number, shape-decimal, shape-fixed}
-use borrow.Author.Rules.{rules}
 use Rattle.fields.proofs.check.check_report.Goals as goal
 
 pub returns-in-Number : goal.returns-in-Number

@@ -3,7 +3,6 @@ use mathlib.Core.Path.{sym, ap, ◌∙◌}
 use Rattle.tables.specs.declared.dictionary.Sort.{Sort}
 use Rattle.tables.specs.declared.table.Row.{Row}
 use Rattle.fields.specs.Check.{check_sort, check_row}
-use borrow.Author.Rules.{rules}
 use Rattle.fields.proofs.check.check_row.Goals as goal
 
 pub returns-in-Required : goal.returns-in-Required

@@ -1,6 +1,5 @@
 -- `fields::check::check_sort` meets its contract: each arm is its sort's clause.
 use Rattle.fields.specs.Check.{check_sort}
-use borrow.Author.Rules.{rules}
 use Rattle.fields.proofs.check.check_sort.Goals as goal
 
 pub returns-in-Number : goal.returns-in-Number

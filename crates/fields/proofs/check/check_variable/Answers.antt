@@ -1,5 +1,4 @@
 -- `fields::check::check_variable` meets its contract: the text reader's answer decides, and a good text is shorter than the bytes.
-use borrow.Author.Rules.{rules}
 use mathlib.Core.Path.{sym, ap, ◌∙◌}
 use native.Mathlib.Omega.{arith}
 use Rattle.wire.proofs.TextLaws.{variable-within}

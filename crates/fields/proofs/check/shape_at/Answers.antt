@@ -1,7 +1,6 @@
 -- `fields::check::shape_at` meets its contract: a report's shape is worked out, any other is not.
 use borrow.Author.Tests.{eq-eqb, ne_eqb}
 use Rattle.fields.specs.Shapes.{shape_at}
-use borrow.Author.Rules.{rules}
 use Rattle.fields.proofs.check.shape_at.Goals as goal
 
 pub returns-then-messagetype-eq-EXECUTION_REPORT : goal.returns-then-messagetype-eq-EXECUTION_REPORT

@@ -4,7 +4,6 @@ use Prim.Native.Nat.{◌≤◌}
 use native.Mathlib.Omega.{arith}
 use lib.ListN.{length, drop_of_length-le}
 use Rattle.wire.proofs.TestLaws.{rest_of}
-use borrow.Author.Rules.{rules}
 use Rattle.fields.proofs.cut.behind.Goals as goal
 
 pub returns-then-s-n : goal.returns-then-s-n

@@ -1,9 +1,6 @@
 use mathlib.Core.Path.{sym, ap, subst, ◌∙◌}
-use mathlib.Core.Logic.{⊎_elim}
-use Prim.Native.Nat.{◌+◌, ◌-◌, ◌<◌}
+use Prim.Native.Nat.{◌+◌, ◌<◌}
 use native.Mathlib.Omega.{arith}
-use borrow.Author.Rules.{rules}
-use borrow.Author.Tests.{not-true, not-false}
 use Rattle.tables.specs.Tables.{row_of}
 use Rattle.fields.proofs.CutLaws.{Seeking, bytes-far, bytes-clear, seek-start, seek-past, seek-over, seek_found}
 use Rattle.fields.proofs.cut.bytes_at.Goals as goal

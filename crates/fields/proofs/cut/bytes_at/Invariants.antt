@@ -1,12 +1,7 @@
 -- `fields::cut::bytes_at` meets its contract: the fields from position q on have the one that is looked for.
-use mathlib.Core.Path.{sym, ap, subst, ◌∙◌}
-use mathlib.Core.Logic.{⊎_elim}
-use Prim.Native.Nat.{◌+◌, ◌-◌, ◌<◌}
-use native.Mathlib.Omega.{arith}
-use borrow.Author.Rules.{rules}
-use borrow.Author.Tests.{not-true, not-false}
+use Prim.Native.Nat.{◌-◌}
 use Rattle.tables.specs.Tables.{row_of}
-use Rattle.fields.proofs.CutLaws.{Seeking, bytes-far, bytes-clear, seek-start, seek-past, seek-over, seek_found}
+use Rattle.fields.proofs.CutLaws.{Seeking}
 use Rattle.fields.proofs.cut.bytes_at.Given as goal
 
 abbrev pub invariant-loop-q : goal.invariant-loop-q

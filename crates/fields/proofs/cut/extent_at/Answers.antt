@@ -1,7 +1,6 @@
 -- `fields::cut::extent_at` meets its contract: the shape stands for the extent.
 use mathlib.Core.Path.{sym, ◌∙◌}
 use Rattle.fields.proofs.ShapeLaws.{at-number, at-decimal, at-fixed}
-use borrow.Author.Rules.{rules}
 use Rattle.fields.proofs.cut.extent_at.Goals as goal
 
 pub returns-in-Number : goal.returns-in-Number

@@ -1,6 +1,5 @@
 -- `fields::cut::extent_of` meets its contract: each arm is its sort's clause.
 use Rattle.fields.specs.Cut.{extent}
-use borrow.Author.Rules.{rules}
 use Rattle.fields.proofs.cut.extent_of.Goals as goal
 
 pub returns-in-Number : goal.returns-in-Number

@@ -3,7 +3,6 @@ use mathlib.Core.Path.{sym, ap, ◌∙◌}
 use Rattle.tables.specs.declared.dictionary.Sort.{Sort}
 use Rattle.tables.specs.declared.table.Row.{Row}
 use Rattle.fields.specs.Cut.{extent, extent_of}
-use borrow.Author.Rules.{rules}
 use Rattle.fields.proofs.cut.extent_row.Goals as goal
 
 pub returns-in-Required : goal.returns-in-Required

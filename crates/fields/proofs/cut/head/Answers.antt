@@ -4,7 +4,6 @@ use Prim.Native.Nat.{ℕ, ◌+◌, ◌*◌, ◌≤◌}
 use native.Mathlib.Omega.{arith}
 use lib.ListN.{length}
 use Rattle.fields.proofs.HeadLaws.{head-short, head-halves}
-use borrow.Author.Rules.{rules}
 use Rattle.fields.proofs.cut.head.Goals as goal
 
 pub returns-then-map-lt8 : goal.returns-then-map-lt8

@@ -2,7 +2,6 @@
 use mathlib.Core.Path.{ap, ◌∙◌}
 use Rattle.wire.specs.Number.{number_bytes}
 use Rattle.fields.proofs.CopyLaws.{laid_as, eight-again}
-use borrow.Author.Rules.{rules}
 use Rattle.fields.proofs.plain.copy_decimal.Goals as goal
 
 pub returns : goal.returns

@@ -5,7 +5,6 @@ use native.Mathlib.Omega.{arith}
 use lib.ListN.{length}
 use lib.Seq.{take_all, length-take-le}
 use Rattle.fields.proofs.CopyLaws.{laid_as}
-use borrow.Author.Rules.{rules}
 use Rattle.fields.proofs.plain.copy_front.Goals as goal
 
 pub returns-then-s-width : goal.returns-then-s-width

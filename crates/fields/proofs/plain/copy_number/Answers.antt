@@ -1,7 +1,5 @@
 -- `fields::plain::copy_number` meets its contract: one byte is laid by itself.
-use borrow.Author.Tests.{leb-true}
 use Rattle.fields.proofs.CopyLaws.{laid_one}
-use borrow.Author.Rules.{rules}
 use Rattle.fields.proofs.plain.copy_number.Goals as goal
 
 pub returns-then-d-ge1 : goal.returns-then-d-ge1

@@ -4,7 +4,6 @@ use Rattle.tables.specs.declared.dictionary.Sort.{Sort}
 use Rattle.tables.specs.declared.table.Row.{Row}
 use Rattle.fields.specs.Plain.{plain_sort, plain_row}
 use Rattle.fields.proofs.CopyLaws.{laid_as, laid_none}
-use borrow.Author.Rules.{rules}
 use Rattle.fields.proofs.plain.copy_row.Goals as goal
 
 pub returns-in-Required : goal.returns-in-Required

@@ -3,7 +3,6 @@ use mathlib.Core.Path.{sym, ap}
 use Rattle.tables.specs.declared.dictionary.Sort.{Sort}
 use Rattle.fields.specs.Plain.{plain_sort}
 use Rattle.fields.proofs.CopyLaws.{laid_as}
-use borrow.Author.Rules.{rules}
 use Rattle.fields.proofs.plain.copy_sort.Goals as goal
 
 pub returns-in-Number : goal.returns-in-Number

@@ -1,8 +1,6 @@
 -- `fields::sets::is_missing` meets its contract.
 use mathlib.Core.Path.{sym, ap, ◌∙◌}
 use mathlib.Core.Bool.{not}
-use borrow.Author.Rules.{rules}
-use borrow.Author.Tests.{not-true, not-false}
 use Rattle.tables.specs.Line.{is_required}
 use Rattle.fields.proofs.SetsLaws.{missing-optional, missing-required}
 use Rattle.fields.proofs.sets.is_missing.Goals as goal

@@ -1,5 +1,4 @@
 -- `fields::sets::is_row_of` meets its contract: the row decides.
-use borrow.Author.Rules.{rules}
 use Rattle.fields.specs.Sets.{is_row_of}
 use Rattle.fields.proofs.sets.is_row_of.Goals as goal
 

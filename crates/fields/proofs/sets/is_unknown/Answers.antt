@@ -1,7 +1,6 @@
 -- `fields::sets::is_unknown` meets its contract.
 use mathlib.Core.Path.{ap, ◌∙◌}
 use mathlib.Core.Bool.{not}
-use borrow.Author.Rules.{rules}
 use Rattle.tables.specs.Line.{is_known}
 use Rattle.fields.specs.Sets.{unknown_to}
 use Rattle.fields.proofs.sets.is_unknown.Goals as goal

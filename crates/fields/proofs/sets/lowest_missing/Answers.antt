@@ -3,11 +3,7 @@ use mathlib.Core.Path.{◌≡◌, sym, ap, ◌∙◌}
 use Prim.Native.Nat.{ℕ}
 use native.Mathlib.Omega.{arith}
 use lib.Bits.{bit_and}
-use borrow.Author.Rules.{rules}
 use Rattle.fields.proofs.QuickLaws.{quick-missing}
-use Rattle.fields.proofs.sets.search_missing.Reads as search-missing-reads
-use Rattle.fields.proofs.words.required_word.Reads as required-word-reads
-use Rattle.fields.proofs.words.word_at.Reads as word-at-reads
 use Rattle.fields.proofs.sets.lowest_missing.Goals as goal
 
 pub returns : goal.returns

@@ -3,13 +3,7 @@ use mathlib.Core.Path.{◌≡◌, sym, ap, ◌∙◌}
 use Prim.Native.Nat.{ℕ}
 use native.Mathlib.Omega.{arith}
 use lib.Bits.{bit_and}
-use borrow.Author.Rules.{rules}
-use borrow.Author.Tests.{not-false}
 use Rattle.fields.proofs.QuickLaws.{quick-unknown}
-use Rattle.fields.proofs.sets.search_unknown.Reads as search-unknown-reads
-use Rattle.fields.proofs.words.is_low.Reads as is-low-reads
-use Rattle.fields.proofs.words.unknown_word.Reads as unknown-word-reads
-use Rattle.fields.proofs.words.word_at.Reads as word-at-reads
 use Rattle.fields.proofs.sets.lowest_unknown.Goals as goal
 
 pub returns : goal.returns

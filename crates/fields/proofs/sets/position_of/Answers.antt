@@ -1,10 +1,7 @@
 use mathlib.Core.Path.{sym, ap, ◌∙◌}
-use Prim.Native.Nat.{◌-◌}
 use native.Mathlib.Omega.{arith}
-use borrow.Author.Rules.{rules}
-use Rattle.tables.specs.Tables.{row_of}
 use Rattle.fields.specs.Sets.{is_row_of, stands_at}
-use Rattle.fields.proofs.SetsLaws.{NoneBelow, none-below-zero, none-below-next, position-hit, position-end}
+use Rattle.fields.proofs.SetsLaws.{none-below-zero, none-below-next, position-hit, position-end}
 use Rattle.fields.proofs.sets.position_of.Goals as goal
 
 pub loop-p-init : goal.loop-p-init

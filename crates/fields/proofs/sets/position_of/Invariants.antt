@@ -1,11 +1,8 @@
 -- `fields::sets::position_of` meets its contract: the field stands at no position below p, and at none at or past the type's span.
-use mathlib.Core.Path.{sym, ap, ◌∙◌}
 use Prim.Native.Nat.{◌-◌}
-use native.Mathlib.Omega.{arith}
-use borrow.Author.Rules.{rules}
 use Rattle.tables.specs.Tables.{row_of}
-use Rattle.fields.specs.Sets.{is_row_of, stands_at}
-use Rattle.fields.proofs.SetsLaws.{NoneBelow, none-below-zero, none-below-next, position-hit, position-end}
+use Rattle.fields.specs.Sets.{stands_at}
+use Rattle.fields.proofs.SetsLaws.{NoneBelow}
 use Rattle.fields.proofs.sets.position_of.Given as goal
 
 abbrev pub invariant-loop-p : goal.invariant-loop-p

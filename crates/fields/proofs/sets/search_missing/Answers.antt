@@ -1,10 +1,6 @@
 use mathlib.Core.Path.{sym, ◌∙◌}
-use Prim.Native.Nat.{◌-◌}
 use native.Mathlib.Omega.{arith}
-use borrow.Author.Rules.{rules}
-use Rattle.tables.specs.Tables.{row_of}
-use Rattle.fields.specs.Sets.{missing_at}
-use Rattle.fields.proofs.SetsLaws.{NoneBelow, none-below-zero, none-below-next, missing-hit, missing-end}
+use Rattle.fields.proofs.SetsLaws.{none-below-zero, none-below-next, missing-hit, missing-end}
 use Rattle.fields.proofs.sets.search_missing.Goals as goal
 
 pub loop-p-init : goal.loop-p-init

@@ -1,11 +1,8 @@
 -- `fields::sets::search_missing` meets its contract: no position below p is missing, and none at or past the type's span.
-use mathlib.Core.Path.{sym, ◌∙◌}
 use Prim.Native.Nat.{◌-◌}
-use native.Mathlib.Omega.{arith}
-use borrow.Author.Rules.{rules}
 use Rattle.tables.specs.Tables.{row_of}
 use Rattle.fields.specs.Sets.{missing_at}
-use Rattle.fields.proofs.SetsLaws.{NoneBelow, none-below-zero, none-below-next, missing-hit, missing-end}
+use Rattle.fields.proofs.SetsLaws.{NoneBelow}
 use Rattle.fields.proofs.sets.search_missing.Given as goal
 
 abbrev pub invariant-loop-p : goal.invariant-loop-p

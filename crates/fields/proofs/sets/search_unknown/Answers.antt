@@ -1,15 +1,9 @@
-use mathlib.Core.Path.{◌≡◌, sym, ◌∙◌}
-use mathlib.Core.Bool.{true}
-use Prim.Native.Nat.{◌+◌, ◌-◌, ◌*◌, ◌≤◌, ◌<◌}
+use mathlib.Core.Path.{sym, ◌∙◌}
+use Prim.Native.Nat.{◌+◌}
 use native.Mathlib.Omega.{arith}
-use borrow.Author.Rules.{rules}
 use borrow.Author.Tests.{ltb-true, ltb-false}
-use lib.ListN.{get_or}
-use Rattle.wire.specs.Map.{bit_at}
-use Rattle.tables.specs.Tables.{row_of}
-use Rattle.fields.specs.Sets.{unknown_at}
 use Rattle.fields.proofs.PositionLaws.{next-of}
-use Rattle.fields.proofs.SetsLaws.{NoneBelow, none-below-zero, unknown-enter, unknown-pass, unknown-hit, unknown-leave, unknown-end, unknown-beyond}
+use Rattle.fields.proofs.SetsLaws.{none-below-zero, unknown-enter, unknown-pass, unknown-hit, unknown-leave, unknown-end, unknown-beyond}
 use Rattle.fields.proofs.sets.search_unknown.Goals as goal
 
 pub loop-i-init : goal.loop-i-init

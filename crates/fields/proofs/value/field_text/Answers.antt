@@ -1,7 +1,5 @@
 -- `fields::value::field_text` meets its contract: the map decides whether the field is there, and its sort what is lent.
-use borrow.Author.Tests.{not-true, not-false}
 use Rattle.fields.specs.Value.{field_text}
-use borrow.Author.Rules.{rules}
 use Rattle.fields.proofs.value.field_text.Goals as goal
 
 pub returns-then-not-here : goal.returns-then-not-here

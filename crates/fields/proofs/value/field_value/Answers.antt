@@ -1,7 +1,5 @@
 -- `fields::value::field_value` meets its contract: the map decides whether the field is there, and its sort what is read.
-use borrow.Author.Tests.{not-true, not-false}
 use Rattle.fields.specs.Value.{field_value}
-use borrow.Author.Rules.{rules}
 use Rattle.fields.proofs.value.field_value.Goals as goal
 
 pub returns-then-not-here : goal.returns-then-not-here

@@ -3,7 +3,6 @@ use mathlib.Core.Path.{sym}
 use lib.Seq.{length-take-le}
 use borrow.Author.Tests.{le-leb, lt-leb}
 use Rattle.fields.specs.Value.{number_value}
-use borrow.Author.Rules.{rules}
 use Rattle.fields.proofs.value.number_value.Goals as goal
 
 pub returns-then-s-width : goal.returns-then-s-width

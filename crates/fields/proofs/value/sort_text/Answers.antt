@@ -1,6 +1,5 @@
 -- `fields::value::sort_text` meets its contract: each arm is its sort's clause.
 use Rattle.fields.specs.Value.{sort_text}
-use borrow.Author.Rules.{rules}
 use Rattle.fields.proofs.value.sort_text.Goals as goal
 
 pub returns-in-Number : goal.returns-in-Number

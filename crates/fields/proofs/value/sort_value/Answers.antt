@@ -1,6 +1,5 @@
 -- `fields::value::sort_value` meets its contract: each arm is its sort's clause.
 use Rattle.fields.specs.Value.{sort_value}
-use borrow.Author.Rules.{rules}
 use Rattle.fields.proofs.value.sort_value.Goals as goal
 
 pub returns-in-Number : goal.returns-in-Number

@@ -1,6 +1,5 @@
 -- `fields::value::text_at` meets its contract.
 use Rattle.fields.specs.Value.{text_at}
-use borrow.Author.Rules.{rules}
 use Rattle.fields.proofs.value.text_at.Goals as goal
 
 pub returns : goal.returns

@@ -1,7 +1,6 @@
 -- `fields::value::text_in` meets its contract: the row decides.
 use mathlib.Core.Path.{sym, ◌∙◌}
 use Rattle.fields.specs.Value.{row_text, text_in}
-use borrow.Author.Rules.{rules}
 use Rattle.fields.proofs.value.text_in.Goals as goal
 
 pub returns-in-Required : goal.returns-in-Required

@@ -1,6 +1,5 @@
 -- `fields::value::text_value` meets its contract: each arm is its clause.
 use Rattle.fields.specs.Value.{text_value}
-use borrow.Author.Rules.{rules}
 use Rattle.fields.proofs.value.text_value.Goals as goal
 
 pub returns-in-Good : goal.returns-in-Good

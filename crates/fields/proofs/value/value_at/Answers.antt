@@ -1,6 +1,5 @@
 -- `fields::value::value_at` meets its contract.
 use Rattle.fields.specs.Value.{value_at}
-use borrow.Author.Rules.{rules}
 use Rattle.fields.proofs.value.value_at.Goals as goal
 
 pub returns : goal.returns

@@ -1,7 +1,6 @@
 -- `fields::value::value_in` meets its contract: the row decides.
 use mathlib.Core.Path.{sym, ◌∙◌}
 use Rattle.fields.specs.Value.{row_value, value_in}
-use borrow.Author.Rules.{rules}
 use Rattle.fields.proofs.value.value_in.Goals as goal
 
 pub returns-in-Required : goal.returns-in-Required

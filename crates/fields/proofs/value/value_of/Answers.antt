@@ -1,6 +1,5 @@
 -- `fields::value::value_of` meets its contract.
 use Rattle.fields.specs.Value.{value_of}
-use borrow.Author.Rules.{rules}
 use Rattle.fields.proofs.value.value_of.Goals as goal
 
 pub returns : goal.returns

@@ -1,11 +1,8 @@
 -- `fields::walk::end_of` meets its contract: the map ends, or its last three words are zeros.
-use Prim.Native.Nat.{ℕ}
 use native.Mathlib.Nat.{le_refl}
 use native.Mathlib.Omega.{arith}
 use lib.ListN.{length}
-use borrow.Author.Rules.{rules}
 use Rattle.fields.proofs.PositionLaws.{present-beyond}
-use Rattle.fields.proofs.words.is_low.Reads as is-low-reads
 use Rattle.fields.proofs.walk.end_of.Goals as goal
 
 pub returns-then-map-lt-MAP_BYTES : goal.returns-then-map-lt-MAP_BYTES

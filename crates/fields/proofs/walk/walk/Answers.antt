@@ -1,16 +1,11 @@
-use mathlib.Core.Path.{◌≡◌, refl, sym, ap, subst, ◌∙◌}
-use mathlib.Core.Bool.{true}
-use Prim.Native.Nat.{ℕ, ◌+◌, ◌-◌, ◌*◌, ◌≤◌, ◌<◌}
+use mathlib.Core.Path.{◌≡◌, sym, subst, ◌∙◌}
+use Prim.Native.Nat.{ℕ, ◌+◌, ◌*◌}
 use native.Mathlib.Omega.{arith}
-use borrow.Author.Rules.{rules}
-use lib.ListN.{length, get_or}
-use Rattle.wire.specs.Map.{bit_at}
 use Rattle.tables.specs.Tables.{row_of}
-use Rattle.fields.specs.Walk.{walk_of}
 use Rattle.fields.specs.Words.{ClearFrom}
 use Rattle.fields.proofs.CheckLaws.{row_within}
-use Rattle.fields.proofs.PositionLaws.{later, later-none, next-of}
-use Rattle.fields.proofs.WalkLaws.{sum-within, walk_from, walk-whole, walk-enter, walk-good, walk-bad, walk-leave, walk_end}
+use Rattle.fields.proofs.PositionLaws.{later-none, next-of}
+use Rattle.fields.proofs.WalkLaws.{sum-within, walk-whole, walk-enter, walk-good, walk-bad, walk-leave, walk_end}
 use Rattle.fields.proofs.walk.walk.Goals as goal
 
 pub walk-init : goal.walk-init

@@ -1,18 +1,14 @@
 -- `fields::walk::walk` meets its contract: what the walk from place j of byte i on gives for `rest`, with what is summed so far,
 -- is what the whole walk gives for the body. The sum and what is left never exceed the body, so the sum stays in range.
-use mathlib.Core.Path.{◌≡◌, refl, sym, ap, subst, ◌∙◌}
+use mathlib.Core.Path.{◌≡◌}
 use mathlib.Core.Bool.{true}
-use Prim.Native.Nat.{ℕ, ◌+◌, ◌-◌, ◌*◌, ◌≤◌, ◌<◌}
-use native.Mathlib.Omega.{arith}
-use borrow.Author.Rules.{rules}
+use Prim.Native.Nat.{◌+◌, ◌-◌, ◌*◌, ◌≤◌, ◌<◌}
 use lib.ListN.{length, get_or}
 use Rattle.wire.specs.Map.{bit_at}
 use Rattle.tables.specs.Tables.{row_of}
 use Rattle.fields.specs.Walk.{walk_of}
-use Rattle.fields.specs.Words.{ClearFrom}
-use Rattle.fields.proofs.CheckLaws.{row_within}
-use Rattle.fields.proofs.PositionLaws.{later, later-none, next-of}
-use Rattle.fields.proofs.WalkLaws.{sum-within, walk_from, walk-whole, walk-enter, walk-good, walk-bad, walk-leave, walk_end}
+use Rattle.fields.proofs.PositionLaws.{later}
+use Rattle.fields.proofs.WalkLaws.{walk_from}
 use Rattle.fields.proofs.walk.walk.Given as goal
 
 abbrev pub invariant-loop-j : goal.invariant-loop-j

@@ -1,6 +1,5 @@
 -- `fields::words::unknown_word` meets its contract: each arm has passed the test.
-use mathlib.Core.Path.{◌≡◌, sym, subst, refl}
-use mathlib.Core.Bool.{true}
+use mathlib.Core.Path.{sym, subst}
 use Prim.Native.Nat.{ℕ}
 use Rattle.tables.specs.Line.{row_at, is_known, is_required}
 use Rattle.tables.specs.Reports.{reports, add_line, column, nine_tables, not_required, joined, union_at}

@@ -1,10 +1,9 @@
 -- `fields::words::word_at` meets its contract: past the map's end there is nothing, and nothing is 0.
-use mathlib.Core.Path.{◌≡◌, sym, ap, ◌∙◌}
+use mathlib.Core.Path.{sym, ap, ◌∙◌}
 use mathlib.Core.List.{List}
 use Prim.Native.Nat.{ℕ, ◌≤◌}
 use native.Mathlib.Omega.{arith}
-use lib.ListN.{length, take, drop, drop_of_length-le}
-use borrow.Author.Rules.{rules}
+use lib.ListN.{length, take, drop_of_length-le}
 use Rattle.wire.specs.Number.{number}
 use Rattle.wire.proofs.TestLaws.{rest_of}
 use Rattle.fields.proofs.words.word_at.Goals as goal
