@@ -12,13 +12,6 @@ use fields::walk::{Walked, walk};
 use tables::table::is_type;
 use wire::text::{Allowed, takes_text};
 
-// Nothing is refused, and the body's plain form has so many bytes; or the refusal.
-#[derive(Clone, Copy)]
-pub enum Vetted {
-    Good(usize),
-    Refused(Refusal),
-}
-
 // A Comp ID is a text of 1 to 11 characters.
 pub fn is_comp_id(comp: &[u8]) -> bool
     ensures { result ≡ good_comp_id comp.now }
@@ -46,30 +39,30 @@ fn is_header(header: Header, named: bool) -> bool
 }
 
 // The refusal of a field that is bad for this reason.
-fn bad_at(reason: Reason, p: usize) -> Vetted
+fn bad_at(reason: Reason, p: usize) -> Result<usize, Refusal>
     ensures { result ≡ vet_walk (BadAt p reason) }
 {
     match reason {
-        Reason::Field => Vetted::Refused(Refusal::BadField(p)),
+        Reason::Field => Err(Refusal::BadField(p)),
     }
 }
 
-// The map and the body of a message of a known type: 7 to 10.
-fn vet_fields(messagetype: u8, map: &[u8], body: &[u8]) -> Vetted
+// The map and the body of a message of a known type: 7 to 10. Gives how many bytes the body's plain form has.
+fn vet_fields(messagetype: u8, map: &[u8], body: &[u8]) -> Result<usize, Refusal>
     ensures { result ≡ vet_fields (row_of messagetype) map.now body.now }
 {
     if let Place::At(unknown) = lowest_unknown(messagetype, map) {
-        return Vetted::Refused(Refusal::UnknownPosition(unknown));
+        return Err(Refusal::UnknownPosition(unknown));
     }
     if let Place::At(missing) = lowest_missing(messagetype, map) {
-        return Vetted::Refused(Refusal::MissingField(missing));
+        return Err(Refusal::MissingField(missing));
     }
     match walk(messagetype, map, body) {
         Walked::Done { left, plain } => {
             if left == 0 {
-                Vetted::Good(plain)
+                Ok(plain)
             } else {
-                Vetted::Refused(Refusal::LeftOver(left))
+                Err(Refusal::LeftOver(left))
             }
         }
         Walked::BadAt(bad, reason) => bad_at(reason, bad),
@@ -77,20 +70,26 @@ fn vet_fields(messagetype: u8, map: &[u8], body: &[u8]) -> Vetted
 }
 
 // The checks of a message with any Comp ID of which `named` says whether it is good: the reader has seen its characters.
-pub(crate) fn vet_named(header: Header, named: bool, map: &[u8], body: &[u8]) -> Vetted
+pub(crate) fn vet_named(
+    header: Header,
+    named: bool,
+    map: &[u8],
+    body: &[u8],
+) -> Result<usize, Refusal>
     ensures { (comp : List ℕ) → named ≡ good_comp_id comp → result ≡ vet header comp map.now body.now }
 {
     let messagetype = header.messagetype;
     if !is_type(messagetype) {
-        return Vetted::Refused(Refusal::UnknownType);
+        return Err(Refusal::UnknownType);
     }
     if !is_header(header, named) {
-        return Vetted::Refused(Refusal::BadHeader);
+        return Err(Refusal::BadHeader);
     }
     vet_fields(messagetype, map, body)
 }
 
-pub fn vet(header: Header, comp: &[u8], map: &[u8], body: &[u8]) -> Vetted
+// The checks of a message: how many bytes its body's plain form has, or the refusal.
+pub fn vet(header: Header, comp: &[u8], map: &[u8], body: &[u8]) -> Result<usize, Refusal>
     ensures { result ≡ vet header comp.now map.now body.now }
 {
     vet_named(header, is_comp_id(comp), map, body)

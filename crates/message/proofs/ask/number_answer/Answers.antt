@@ -1,5 +1,7 @@
 -- `message::ask::number_answer` meets its contract: each arm is its clause.
+use lib.IntN.{ℤ}
 use Rattle.std.proofs.Common.{w64}
+use Rattle.std.specs.Prelude.{Ok}
 use mathlib.Core.Path.{sym, ap, ◌∙◌}
 use mir.Facts.{to_z-of_z}
 use Rattle.message.specs.declared.ask.Asked.TheVariants.{Decimal}
@@ -13,7 +15,7 @@ returns-in-Number c = simp c.in-Number.is
 
 pub returns-in-Decimal : goal.returns-in-Decimal
 unfolding number_answer
-returns-in-Decimal c = ap Decimal (to_z-of_z {w = w64} (record { sfits = search rules })) ∙ sym (ap (number_answer _) c.in-Decimal.is)
+returns-in-Decimal c = ap (λ (z : ℤ). Ok (Decimal z)) (to_z-of_z {w = w64} (record { sfits = search rules })) ∙ sym (ap (number_answer _) c.in-Decimal.is)
 
 pub returns-in-Text : goal.returns-in-Text
 unfolding number_answer
