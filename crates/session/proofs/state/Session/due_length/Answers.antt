@@ -14,13 +14,13 @@ returns-in-Waiting c = simp c.in-Waiting.is
 pub returns-then-is_due_header-is_ours : goal.returns-then-is_due_header-is_ours
 unfolding due_length due_in
 returns-then-is_due_header-is_ours c =
-    simp (c.in-Live.is, c.in-Good.is, sym c.is_due_header.ensures, sym c.is_ours.ensures, c.if-is_due_header-is_ours.true)
+    simp (c.in-Live.is, c.in-Ok.is, sym c.is_due_header.ensures, sym c.is_ours.ensures, c.if-is_due_header-is_ours.true)
 
 pub returns-else-is_due_header-is_ours : goal.returns-else-is_due_header-is_ours
 unfolding due_length due_in
 returns-else-is_due_header-is_ours c =
-    simp (c.in-Live.is, c.in-Good.is, sym c.is_due_header.ensures, sym c.is_ours.ensures, c.if-is_due_header-is_ours.false)
+    simp (c.in-Live.is, c.in-Ok.is, sym c.is_due_header.ensures, sym c.is_ours.ensures, c.if-is_due_header-is_ours.false)
 
-pub returns-in-Refused : goal.returns-in-Refused
+pub returns-in-Err : goal.returns-in-Err
 unfolding due_length due_in
-returns-in-Refused c = simp (c.in-Live.is, c.in-Refused.is)
+returns-in-Err c = simp (c.in-Live.is, c.in-Err.is)
