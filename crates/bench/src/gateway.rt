@@ -7,6 +7,7 @@ use crate::{
 };
 use message::frame::{Header, body_in, comp_id_in, front_length, header_in, map_in};
 use message::read::{Reading, read};
+use message::refusal::Refusal;
 use plan::{A_PAIR, Planned};
 use std::io::{Read, Stdin};
 use tables::table::{BUSINESS_MESSAGE_REJECT, EXECUTION_REPORT};
@@ -14,7 +15,7 @@ use wire::laying::put_bytes;
 use wire::map::MAP_BYTES;
 use wire::text::LONGEST;
 use writer::send::put_gap_fill;
-use writer::write::{Written, write};
+use writer::write::write;
 
 // The most bytes of a list. No message is shorter than 58, so a list has at most 18,078 of them: 65,536 marks, and as many numbers for the
 // pairs of a plan, always suffice.
@@ -66,7 +67,7 @@ fn same(a: &[u8], b: &[u8]) -> bool {
 // The message at the front of s, which is number n of the list.
 fn look(list: &[u8], s: &[u8], n: usize) -> Looked {
     match read(s) {
-        Reading::Good { header, length } => {
+        Ok(Reading { header, length }) => {
             if header.number as usize != n {
                 return Looked::Bad(Fault::Bears(header.number));
             }
@@ -75,7 +76,7 @@ fn look(list: &[u8], s: &[u8], n: usize) -> Looked {
             }
             Looked::Good(is_business(header.messagetype), length)
         }
-        Reading::Refused(refusal) => Looked::Bad(Fault::Refused(refusal.number())),
+        Err(refusal) => Looked::Bad(Fault::Refused(refusal.number())),
     }
 }
 
@@ -101,7 +102,7 @@ fn mark_list(list: &[u8], marks: &mut [u8]) -> Listed {
 
 // The message at the front of s in plain form, with PossDup 1. It was read when the list was looked at, and is not read again: the writer makes its
 // own checks.
-fn put_again(d: &mut [u8], s: &[u8]) -> Written {
+fn put_again(d: &mut [u8], s: &[u8]) -> Result<usize, Refusal> {
     let header = header_in(s);
     let again = Header {
         messagetype: header.messagetype,
@@ -115,7 +116,7 @@ fn put_again(d: &mut [u8], s: &[u8]) -> Written {
 }
 
 // One part of the plan, over the list from its first number on.
-fn put_part(d: &mut [u8], s: &[u8], first: u32, new: u32) -> Written {
+fn put_part(d: &mut [u8], s: &[u8], first: u32, new: u32) -> Result<usize, Refusal> {
     if new == 0 {
         return put_again(d, s);
     }
@@ -125,14 +126,14 @@ fn put_part(d: &mut [u8], s: &[u8], first: u32, new: u32) -> Written {
 fn send_part(out: &mut Out, s: &[u8], first: u32, new: u32) -> Sent {
     let mut d = [0u8; LONGEST];
     match put_part(&mut d, s, first, new) {
-        Written::Wrote(n) => {
+        Ok(n) => {
             if out.stdout.write_all(front(&d, n)).is_ok() {
                 Sent::All
             } else {
                 Sent::Closed
             }
         }
-        Written::Refused(refusal) => Sent::Refused(refusal.number()),
+        Err(refusal) => Sent::Refused(refusal.number()),
     }
 }
 

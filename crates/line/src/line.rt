@@ -6,6 +6,7 @@ ghost use Rattle.line.specs.Line.{is_interval, line_number, quiet_line, not_a_li
 
 use calls::{Done, Ended, is_heard, steps};
 use message::read::Reading;
+use message::refusal::Refusal;
 use session::day::Made;
 use session::state::{Answer, Code, Halt, SEND_NONE, Send, Session, State, Stepped, told};
 
@@ -343,7 +344,7 @@ impl Line {
     }
 
     // One step at time t on the message at the front of s, of which the reader has given this.
-    pub fn step_by(self, t: u64, s: &[u8], reading: Reading) -> LineStepped
+    pub fn step_by(self, t: u64, s: &[u8], reading: Result<Reading, Refusal>) -> LineStepped
         ensures { result ≡ stepped_line self t (step_by self.session s.now reading) }
     {
         let was = self.session;
@@ -351,7 +352,7 @@ impl Line {
     }
 
     // What was read at the front of s is taken at time t, where it is business in its turn. A step would do no more.
-    pub fn take_due(self, t: u64, s: &[u8], reading: Reading) -> LineDue
+    pub fn take_due(self, t: u64, s: &[u8], reading: Result<Reading, Refusal>) -> LineDue
         ensures { result ≡ take_due_line self t s.now reading }
     {
         let was = self.session;

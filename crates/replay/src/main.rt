@@ -11,7 +11,7 @@
 ghost use Rattle.std.specs.Prelude.{◌≤◌};
 
 use calls::{A_ROW, A_SEND, Done, steps};
-use message::frame::{COMP_ID_BYTES, Framed, check_frame, comp_id_in, front_length, header_in};
+use message::frame::{COMP_ID_BYTES, check_frame, comp_id_in, front_length, header_in};
 use message::list::{A_FIELD, DECIMAL, Listed, NUMBER, TEXT, list_fields};
 use message::refusal::{BAD_SUM, SHORT};
 use message::vet::is_comp_id;
@@ -276,12 +276,8 @@ fn say_listed(
 fn say_fields(rt: &(impl Print + Eprint), out: &mut [u8], said: usize, s: &[u8]) -> usize {
     let mut numbers = [0u64; ROOM];
     match list_fields(&mut numbers, s) {
-        Listed::Good {
-            header,
-            length: _,
-            fields,
-        } => say_listed(rt, out, said, header.messagetype, &numbers, fields, s),
-        Listed::Refused(_) => said,
+        Ok(Listed { header, fields, .. }) => say_listed(rt, out, said, header.messagetype, &numbers, fields, s),
+        Err(_) => said,
     }
 }
 
@@ -731,8 +727,8 @@ fn name(rt: &(impl Print + Eprint), view: View, asked: Asked, buf: &[u8], out: &
         return view;
     }
     match check_frame(s) {
-        Framed::Whole(_) => begin(rt, view, comp, true, asked, out),
-        Framed::Refused(_) => view,
+        Ok(_) => begin(rt, view, comp, true, asked, out),
+        Err(_) => view,
     }
 }
 

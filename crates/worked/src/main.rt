@@ -28,7 +28,7 @@ use tables::table::EXECUTION_REPORT;
 use wire::decimal::put_decimal;
 use wire::map::MAP_BYTES;
 use wire::number::read_u64;
-use writer::write::{Written, write};
+use writer::write::write;
 
 // Standard output, and how writing to it went: after the first failure nothing more is written.
 #[derive(Drop)]
@@ -69,27 +69,27 @@ fn say_refusal(out: &mut Out, refusal: Refusal) {
     say_number(out, refusal.besides() as u64);
 }
 
-fn say_asked(out: &mut Out, asked: Asked) {
+fn say_asked(out: &mut Out, asked: Result<Asked, Refusal>) {
     match asked {
-        Asked::Number(n) => {
+        Ok(Asked::Number(n)) => {
             say(out, b"number ");
             say_number(out, n);
         }
-        Asked::Decimal(z) => {
+        Ok(Asked::Decimal(z)) => {
             say(out, b"decimal ");
             say_signed(out, z);
         }
-        Asked::Text(n) => {
+        Ok(Asked::Text(n)) => {
             say(out, b"text of ");
             say_number(out, n as u64);
         }
-        Asked::Refused(refusal) => say_refusal(out, refusal),
+        Err(refusal) => say_refusal(out, refusal),
     }
 }
 
 fn say_reading(out: &mut Out, s: &[u8]) {
     match read(s) {
-        Reading::Good { header, length } => {
+        Ok(Reading { header, length }) => {
             say(out, b"type ");
             say_number(out, header.messagetype as u64);
             say(out, b" number ");
@@ -106,7 +106,7 @@ fn say_reading(out: &mut Out, s: &[u8]) {
                 say_shares(out, s);
             }
         }
-        Reading::Refused(refusal) => say_refusal(out, refusal),
+        Err(refusal) => say_refusal(out, refusal),
     }
 }
 
@@ -264,15 +264,15 @@ fn map_bytes(s: &[u8]) -> [u8; MAP_BYTES] {
 // The message at the front of s, read and written again.
 fn say_plain(out: &mut Out, s: &[u8]) {
     match read(s) {
-        Reading::Good { header, length: _ } => {
+        Ok(Reading { header, length: _ }) => {
             let mut d = [0u8; 4096];
             let m = map_bytes(map(s));
             match write(&mut d, header, comp_id(s), &m, body(s)) {
-                Written::Wrote(n) => say_hex(out, front(&d, n)),
-                Written::Refused(refusal) => say_refusal(out, refusal),
+                Ok(n) => say_hex(out, front(&d, n)),
+                Err(refusal) => say_refusal(out, refusal),
             }
         }
-        Reading::Refused(refusal) => say_refusal(out, refusal),
+        Err(refusal) => say_refusal(out, refusal),
     }
 }
 
