@@ -13,6 +13,7 @@ use tables::table::is_type;
 use wire::text::{Allowed, takes_text};
 
 // A Comp ID is a text of 1 to 11 characters.
+#[tactic(auto, unfolding(crate::specs::Vet::good_comp_id))]
 pub fn is_comp_id(comp: &[u8]) -> bool
     ensures { result ≡ good_comp_id comp.now }
 {
@@ -23,6 +24,7 @@ pub fn is_comp_id(comp: &[u8]) -> bool
 }
 
 // 6, where `named` says whether the Comp ID is good.
+#[tactic(auto, unfolding(crate::specs::Vet::good_header))]
 fn is_header(header: Header, named: bool) -> bool
     ensures { (comp : List ℕ) → named ≡ good_comp_id comp → result ≡ good_header header comp }
 {
@@ -48,6 +50,7 @@ fn bad_at(reason: Reason, p: usize) -> Result<usize, Refusal>
 }
 
 // The map and the body of a message of a known type: 7 to 10. Gives how many bytes the body's plain form has.
+#[tactic(auto, unfolding(crate::specs::Vet::vet_fields, crate::specs::Vet::vet_sets, crate::specs::Vet::vet_place, crate::specs::Vet::vet_walk))]
 fn vet_fields(messagetype: u8, map: &[u8], body: &[u8]) -> Result<usize, Refusal>
     ensures { result ≡ vet_fields (row_of messagetype) map.now body.now }
 {
@@ -70,6 +73,7 @@ fn vet_fields(messagetype: u8, map: &[u8], body: &[u8]) -> Result<usize, Refusal
 }
 
 // The checks of a message with any Comp ID of which `named` says whether it is good: the reader has seen its characters.
+#[tactic(auto, unfolding(crate::specs::Vet::vet))]
 pub(crate) fn vet_named(
     header: Header,
     named: bool,
