@@ -39,10 +39,7 @@ pub fn read(s: &[u8]) -> Result<Reading, Refusal>
 pub fn comp_id(s: &[u8]) -> &[u8]
     ensures { result.now ≡ comp_id_of s.now }
 {
-    match read(s) {
-        Ok(_) => comp_id_in(s),
-        Err(_) => &s[..0],
-    }
+    read(s).map_or(&s[..0], |_| comp_id_in(s))
 }
 
 // The presence map's 32 bytes.
@@ -50,10 +47,7 @@ pub fn comp_id(s: &[u8]) -> &[u8]
 pub fn map(s: &[u8]) -> &[u8]
     ensures { result.now ≡ map_of s.now }
 {
-    match read(s) {
-        Ok(_) => map_in(s),
-        Err(_) => &s[..0],
-    }
+    read(s).map_or(&s[..0], |_| map_in(s))
 }
 
 // The message body.
@@ -61,8 +55,5 @@ pub fn map(s: &[u8]) -> &[u8]
 pub fn body(s: &[u8]) -> &[u8]
     ensures { result.now ≡ body_of s.now }
 {
-    match read(s) {
-        Ok(message) => body_in(message.length, s),
-        Err(_) => &s[..0],
-    }
+    read(s).map_or(&s[..0], |message| body_in(message.length, s))
 }

@@ -17,10 +17,7 @@ use wire::text::{Allowed, takes_text};
 pub fn is_comp_id(comp: &[u8]) -> bool
     ensures { result ≡ good_comp_id comp.now }
 {
-    if comp.len() == 0 {
-        return false;
-    }
-    takes_text(Allowed::Ascii, COMP_ID_BYTES, comp)
+    1 <= comp.len() && takes_text(Allowed::Ascii, COMP_ID_BYTES, comp)
 }
 
 // 6, where `named` says whether the Comp ID is good.
@@ -28,16 +25,7 @@ pub fn is_comp_id(comp: &[u8]) -> bool
 fn is_header(header: Header, named: bool) -> bool
     ensures { (comp : List ℕ) → named ≡ good_comp_id comp → result ≡ good_header header comp }
 {
-    if header.number == 0 {
-        return false;
-    }
-    if 1 < header.possdup {
-        return false;
-    }
-    if 1 < header.possresend {
-        return false;
-    }
-    named
+    1 <= header.number && header.possdup <= 1 && header.possresend <= 1 && named
 }
 
 // The refusal of a field that is bad for this reason.
