@@ -1,27 +1,12 @@
--- `session::arrival::is_yes` meets its contract: each arm is its clause.
+-- `session::arrival::is_yes` meets its contract.
+use mathlib.Core.Path.{sym}
 use Rattle.session.specs.Arrival.{is_yes}
+use Rattle.session.proofs.CaseLaws.{is_yes-none}
 use Rattle.session.proofs.arrival.is_yes.Goals as goal
 
 pub returns-in-Number : goal.returns-in-Number
 unfolding is_yes
 returns-in-Number c = simp c.in-Number.is
 
-pub returns-in-Decimal : goal.returns-in-Decimal
-unfolding is_yes
-returns-in-Decimal c = simp c.in-Decimal.is
-
-pub returns-in-Text : goal.returns-in-Text
-unfolding is_yes
-returns-in-Text c = simp c.in-Text.is
-
-pub returns-in-Bad : goal.returns-in-Bad
-unfolding is_yes
-returns-in-Bad c = simp c.in-Bad.is
-
-pub returns-in-Absent : goal.returns-in-Absent
-unfolding is_yes
-returns-in-Absent c = simp c.in-Absent.is
-
-pub returns-in-Unknown : goal.returns-in-Unknown
-unfolding is_yes
-returns-in-Unknown c = simp c.in-Unknown.is
+pub returns-in_default : goal.returns-in_default
+returns-in_default c = sym (is_yes-none _ c.in_default.not-Number)
