@@ -8,7 +8,7 @@ ghost use Rattle.session.specs.Turn.{is_due_header, due_length, due_taken, take_
 ghost use Rattle.session.specs.Arrival.{same_bytes, up_to, is_yes, sequence_reset, content_of, is_ours, arrival_by};
 
 use crate::state::{LAST, MOST_ID, Session, State, ahead_at};
-use fields::value::{Value, value_of};
+use fields::value::{NoValue, Value, value_of};
 use message::frame::{COMP_ID_BYTES, Header, body_in, comp_bytes_in, comp_id_in, map_in};
 use message::read::Reading;
 use message::refusal::Refusal;
@@ -24,7 +24,7 @@ use wire::text::{Allowed, fixed_part};
 const GAP_FILL: u64 = YES as u64;
 
 // A message's type, with the numbers of its fields that the rules name.
-#[derive(Clone, Copy)]
+#[derive(Clone, Copy, PartialEq, Eq, Debug)]
 pub enum Content {
     Heartbeat,
     // Test Request ID.
@@ -45,7 +45,7 @@ pub enum Content {
     Business,
 }
 
-#[derive(Clone, Copy)]
+#[derive(Clone, Copy, PartialEq, Eq, Debug)]
 pub struct Message {
     pub number: u32,
     pub possdup: bool,
@@ -64,44 +64,28 @@ pub enum Arrival {
 fn is_same(a: &[u8], b: &[u8]) -> bool
     ensures { result ≡ same_bytes a.now b.now }
 {
-    if a.len() != b.len() {
-        return false;
-    }
-    let mut i = 0;
-    while i < a.len() {
-        if a[i] != b[i] {
-            return false;
-        }
-        i += 1;
-    }
-    true
+    a == b
 }
 
 // The number of a field, which its width keeps within `most`; 0 where there is none.
-fn up_to(value: Value, most: u32) -> u32
+#[tactic(auto, unfolding(crate::specs::Arrival::up_to))]
+fn up_to(value: Result<Value, NoValue>, most: u32) -> u32
     ensures { (result ≡ up_to most value) × (result ≤ most) }
 {
     match value {
-        Value::Number(n) => { if n <= most as u64 { n as u32 } else { 0 } }
-        Value::Decimal(_) => 0,
-        Value::Text(_) => 0,
-        Value::Bad => 0,
-        Value::Absent => 0,
-        Value::Unknown => 0,
+        Ok(Value::Number(n)) => { if n <= most as u64 { n as u32 } else { 0 } }
+        _ => 0,
     }
 }
 
 // Whether Gap Fill is 'Y'.
-fn is_yes(value: Value) -> bool
+#[tactic(auto, unfolding(crate::specs::Arrival::is_yes))]
+fn is_yes(value: Result<Value, NoValue>) -> bool
     ensures { result ≡ is_yes value }
 {
     match value {
-        Value::Number(n) => n == GAP_FILL,
-        Value::Decimal(_) => false,
-        Value::Text(_) => false,
-        Value::Bad => false,
-        Value::Absent => false,
-        Value::Unknown => false,
+        Ok(Value::Number(n)) => n == GAP_FILL,
+        _ => false,
     }
 }
 
@@ -178,15 +162,13 @@ fn is_same_start(a: &[u8], b: &[u8]) -> bool
     if read_eight(a) != read_eight(b) {
         return false;
     }
-    let mut i = 8;
-    while i < COMP_ID_BYTES {
+    for i in 8..COMP_ID_BYTES {
         if a[i] != b[i] {
             return false;
         }
         if a[i] == 0 {
             return true;
         }
-        i += 1;
     }
     false
 }
@@ -243,12 +225,9 @@ impl Session {
     fn due_length(self, s: &[u8], reading: Result<Reading, Refusal>) -> usize
         ensures { result ≡ due_length self s.now reading }
     {
-        let state = self.state;
         let ours = self.ours;
-        match state {
-            State::Down => return 0,
-            State::Waiting => return 0,
-            State::Live => {}
+        if self.state != State::Live {
+            return 0;
         }
         match reading {
             Ok(Reading { header, length }) => {

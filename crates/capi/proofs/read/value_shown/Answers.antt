@@ -4,7 +4,7 @@ use Rattle.std.proofs.Common.{w64}
 use Rattle.std.specs.Prelude.{Ok}
 use lib.IntN.{ℤ}
 use mir.Facts.{to_z-of_z}
-use Rattle.message.specs.declared.ask.Asked.TheVariants.{Decimal}
+use Rattle.fields.specs.declared.value.Value.TheVariants.{Decimal}
 use Rattle.capi.specs.Reading.{shown_value}
 use borrow.Author.Rules.{rules}
 use Rattle.capi.proofs.read.value_shown.Goals as goal
