@@ -28,7 +28,7 @@ pub struct Line {
     pub new: u32,
 }
 
-// The kinds in numbers.
+// The kinds in numbers, as a list of arrivals is lent to `plain::arrive`, which takes any numbers.
 pub const LOGON: u32 = 0;
 
 pub const BUSINESS: u32 = 1;

@@ -5,7 +5,7 @@ use mathlib.Core.List.{List}
 use Rattle.std.specs.Prelude.{Option}
 use Rattle.wire.specs.Spelled.{spelled}
 use Rattle.sheet.specs.declared.line.Line.{Line}
-use Rattle.sheet.specs.Line.{after, number, line_of}
+use Rattle.sheet.specs.Line.{number, line_of}
 use Rattle.sheet.proofs.LineLaws.{follows-none, follows-bad, follows-good, dup-blind}
 use Rattle.sheet.proofs.line.dup_from.Goals as goal
 

@@ -7,7 +7,7 @@ use borrow.Rule.Slice.PartMut.{put_mid, same_len_mid}
 use Rattle.wire.specs.Laying.{laid, laid_answer, refusal, besides}
 use Rattle.session.specs.declared.state.Stepped.{Stepped}
 use Rattle.session.specs.Rules.{ruled}
-use Rattle.std.specs.Prelude.{Option, Some, None}
+use Rattle.std.specs.Prelude.{Some, None}
 use Rattle.sheet.specs.Line.{said_of}
 use Rattle.sheet.specs.Print.{printed, printed_bad}
 use Rattle.sheet.specs.Sheet.{message_of}
