@@ -1,14 +1,13 @@
 // The checks that reader and writer share, in their order: 5 to 10.
 ghost use Rattle.std.specs.Prelude.{◌≡◌, ℕ, List};
 ghost use Rattle.tables.specs.Tables.{row_of};
-ghost use Rattle.fields.specs.declared.walk.Walked.TheVariants.{BadAt};
-ghost use Rattle.message.specs.Vet.{good_comp_id, good_header, vet_walk, vet_fields, vet};
+ghost use Rattle.message.specs.Vet.{good_comp_id, good_header, refusal_of, vet_fields, vet};
 
 use crate::frame::{COMP_ID_BYTES, Header};
 use crate::refusal::Refusal;
 use fields::check::Reason;
 use fields::sets::{lowest_missing, lowest_unknown};
-use fields::walk::{Walked, walk};
+use fields::walk::{BadAt, Walked, walk};
 use tables::table::is_type;
 use wire::text::{Allowed, takes_text};
 
@@ -28,12 +27,13 @@ fn is_header(header: Header, named: bool) -> bool
     1 <= header.number && header.possdup <= 1 && header.possresend <= 1 && named
 }
 
-// The refusal of a field that is bad for this reason.
-fn bad_at(reason: Reason, p: usize) -> Result<usize, Refusal>
-    ensures { result ≡ vet_walk (BadAt p reason) }
+// The refusal of the first bad field, by its reason.
+#[tactic(auto, unfolding(crate::specs::Vet::refusal_of))]
+fn bad_at(bad: BadAt) -> Refusal
+    ensures { result ≡ refusal_of bad.reason bad.position }
 {
-    match reason {
-        Reason::Field => Err(Refusal::BadField(p)),
+    match bad.reason {
+        Reason::Field => Refusal::BadField(bad.position),
     }
 }
 
@@ -48,15 +48,11 @@ fn vet_fields(messagetype: u8, map: &[u8], body: &[u8]) -> Result<usize, Refusal
     if let Some(missing) = lowest_missing(messagetype, map) {
         return Err(Refusal::MissingField(missing));
     }
-    match walk(messagetype, map, body) {
-        Walked::Done { left, plain } => {
-            if left == 0 {
-                Ok(plain)
-            } else {
-                Err(Refusal::LeftOver(left))
-            }
-        }
-        Walked::BadAt(bad, reason) => bad_at(reason, bad),
+    let Walked { left, plain } = walk(messagetype, map, body).map_err(bad_at)?;
+    if left == 0 {
+        Ok(plain)
+    } else {
+        Err(Refusal::LeftOver(left))
     }
 }
 

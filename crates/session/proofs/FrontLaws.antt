@@ -7,22 +7,22 @@ use native.Mathlib.Omega.{arith}
 use lib.Dec.{eqb, leb}
 use lib.ListN.{length, get_or}
 use borrow.Author.Tests.{leb-true, leb-false, eqb-true, eqb-false, ne_eqb}
-use Rattle.std.specs.Prelude.{Result, Ok, Err}
 use Rattle.tables.specs.Tables.{is_type, row_of}
+use Rattle.fields.specs.declared.check.Reason.{Reason}
 use Rattle.fields.specs.declared.check.Reason.TheVariants.{Field}
-use Rattle.std.specs.Prelude.{Option, Some, None}
+use Rattle.std.specs.Prelude.{Option, Some, None, Result, Ok, Err}
 use Rattle.fields.specs.declared.walk.Walked.{Walked}
-use Rattle.fields.specs.declared.walk.Walked.TheVariants.{Done, BadAt}
+use Rattle.fields.specs.declared.walk.BadAt.{BadAt}
 use Rattle.fields.specs.Sets.{lowest_unknown, lowest_missing}
 use Rattle.fields.specs.Walk.{walk_of}
 use Rattle.wire.proofs.TestLaws.{either}
 use Rattle.message.specs.declared.frame.Header.{Header}
 use Rattle.message.specs.declared.refusal.Refusal.{Refusal}
-use Rattle.message.specs.declared.refusal.Refusal.TheVariants.{UnknownPosition, MissingField, BadField}
+use Rattle.message.specs.declared.refusal.Refusal.TheVariants.{UnknownPosition, MissingField}
 use Rattle.message.specs.Frame.{header_in, comp_id_in, map_in, body_in, length_in, framed, length_by, front_length}
 use Rattle.message.specs.Read.{Good, read_vetted, read_whole, read_framed, read_of}
 use Rattle.message.specs.Refusal.{number_of}
-use Rattle.message.specs.Vet.{good_header, vet_walk, vet_place, vet_sets, vet_fields, vet}
+use Rattle.message.specs.Vet.{good_header, refusal_of, vet_walk, vet_place, vet_sets, vet_fields, vet}
 use Rattle.message.proofs.ReadLaws.{good-same}
 use Rattle.message.proofs.FrameLaws.{framed-by, front-short, front-other, front_by}
 
@@ -47,10 +47,14 @@ data Late : Result ℕ Refusal → Type 0 where
   good : {n : ℕ} → Late (Ok n)
   refused : {r : Refusal} → 5 ≤ number_of r → Late (Err r)
 
-late-walk : (w : Walked) → Late (vet_walk w)
+late-field : (why : Reason) (p : ℕ) → 5 ≤ number_of (refusal_of why p)
+unfolding refusal_of number_of
+late-field Field p = omega arith
+
+late-walk : (w : Result Walked BadAt) → Late (vet_walk w)
 unfolding vet_walk number_of
-late-walk (Done left plain) = either Late (eqb left 0) (λ e. good) (λ e. refused (omega arith))
-late-walk (BadAt p Field) = refused {r = BadField p} (omega arith)
+late-walk (Ok w) = either Late (eqb w.left 0) (λ e. good) (λ e. refused (omega arith))
+late-walk (Err bad) = refused (late-field bad.reason bad.position)
 
 late-place : (r : ℕ → Refusal) (p : Option ℕ) {v : Result ℕ Refusal} → ((k : ℕ) → 5 ≤ number_of (r k)) → Late v → Late (vet_place r p v)
 unfolding vet_place
