@@ -1,19 +1,8 @@
--- `tables::table::Row::is_required` meets its contract. Assumes nothing.
+-- `tables::table::Row::is_required` meets its contract: there is no other row. Assumes nothing.
+use Rattle.std.proofs.Common.{refl, arith}
 use Rattle.tables.specs.Line.{is_required}
 use Rattle.tables.proofs.table.Row.is_required.Goals as goal
 
-pub returns-in-Required : goal.returns-in-Required
+pub returns-in_default : goal.returns-in_default
 unfolding is_required
-returns-in-Required c = simp c.in-Required.is
-
-pub returns-in-Optional : goal.returns-in-Optional
-unfolding is_required
-returns-in-Optional c = simp c.in-Optional.is
-
-pub returns-in-UnknownPosition : goal.returns-in-UnknownPosition
-unfolding is_required
-returns-in-UnknownPosition c = simp c.in-UnknownPosition.is
-
-pub returns-in-UnknownType : goal.returns-in-UnknownType
-unfolding is_required
-returns-in-UnknownType c = simp c.in-UnknownType.is
+returns-in_default c = grind arith
