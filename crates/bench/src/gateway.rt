@@ -110,7 +110,7 @@ fn put_again(d: &mut [u8], s: &[u8]) -> Written {
         possresend: header.possresend,
     };
     let mut map = [0u8; MAP_BYTES];
-    put_bytes(&mut map, map_in(s));
+    let _ = put_bytes(&mut map, map_in(s));
     write(d, again, comp_id_in(s), &map, body_in(front_length(s), s))
 }
 

@@ -20,7 +20,7 @@ use sheet::sheet::{End, begun, next_count, take_lines};
 use spelt::line_length;
 use std::env::{Env, FillError};
 use std::io::Read;
-use wire::laying::Laid;
+use wire::laying::NotLaid;
 
 // Room for a word of the command line.
 const A_WORD: usize = 4096;
@@ -163,7 +163,7 @@ fn more(
     let kept = so_far.end;
     if buf.len() <= kept {
         let laid = put_bad(out, recorder.count);
-        print(rt, out, laid.besides());
+        print(rt, out, laid.unwrap_or(0));
         return so_far.stopped();
     }
     let Ok(came) = input.read(&mut buf[kept..]) else {
@@ -218,7 +218,7 @@ fn expected(day: Day) -> u32
 }
 
 // The line of the plain recorder's answer.
-fn tell(told: Told, out: &mut [u8]) -> Laid
+fn tell(told: Told, out: &mut [u8]) -> Result<usize, NotLaid>
     ensures value { result ≡ laid_answer (line_text told.row (expected_in told.day) told.send) out.old }
     ensures out_after { out.new ≡ laid (line_text told.row (expected_in told.day) told.send) out.old }
 {
@@ -241,11 +241,11 @@ fn keep(
     match arrived {
         Arrived::Kept(count, told) => {
             let laid = tell(told, out);
-            recorder.took(count, used, laid.besides(), Next::Lines)
+            recorder.took(count, used, laid.unwrap_or(0), Next::Lines)
         }
         Arrived::Full => {
             let laid = put_full(out, recorder.count);
-            recorder.took(kept, used, laid.besides(), Next::Nothing)
+            recorder.took(kept, used, laid.unwrap_or(0), Next::Nothing)
         }
     }
 }
@@ -267,7 +267,7 @@ fn plainly(recorder: Recorder, s: &[u8], list: &mut [[u32; 4]], out: &mut [u8]) 
         Said::Line(line) => keep(recorder, line, n + 1, list, out),
         Said::Bad => {
             let laid = put_bad(out, recorder.count);
-            recorder.took(kept, n + 1, laid.besides(), Next::Nothing)
+            recorder.took(kept, n + 1, laid.unwrap_or(0), Next::Nothing)
         }
     }
 }

@@ -7,7 +7,7 @@ ghost use Rattle.fields.specs.Shapes.{shape_of, shape_at};
 
 use tables::dictionary::{NO, Sort, YES, sort_of};
 use tables::table::{EXECUTION_REPORT, Row, row_of};
-use wire::text::{Allowed, Text, fixed_text, variable_text};
+use wire::text::{Allowed, fixed_text, variable_text};
 
 // Why a field is bad: document 01 has one refusal for all.
 #[derive(Clone, Copy)]
@@ -53,14 +53,11 @@ fn check_fixed(allowed: Allowed, width: usize, s: &[u8]) -> Checked
     ensures { result ≡ fixed allowed width s.now }
 {
     match fixed_text(allowed, width, s) {
-        Text::Good {
-            characters: _,
-            taken,
-        } => Checked::Good {
-            taken,
-            plain: taken,
+        Some(text) => Checked::Good {
+            taken: text.taken,
+            plain: text.taken,
         },
-        Text::Bad => Checked::Bad(Reason::Field),
+        None => Checked::Bad(Reason::Field),
     }
 }
 
@@ -69,11 +66,11 @@ fn check_variable(allowed: Allowed, size: usize, s: &[u8]) -> Checked
     ensures { result ≡ variable allowed size s.now }
 {
     match variable_text(allowed, size, s) {
-        Text::Good { characters, taken } => Checked::Good {
-            taken,
-            plain: characters + 3,
+        Some(text) => Checked::Good {
+            taken: text.taken,
+            plain: text.characters + 3,
         },
-        Text::Bad => Checked::Bad(Reason::Field),
+        None => Checked::Bad(Reason::Field),
     }
 }
 

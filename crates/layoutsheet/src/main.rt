@@ -37,7 +37,7 @@ fn front(d: &[u8], n: usize) -> &[u8] {
 fn say_name(out: &mut Out, field: Field) {
     let mut d = [0u8; 64];
     let laid = put_name(&mut d, field);
-    say(out, front(&d, laid.besides()));
+    say(out, front(&d, laid.unwrap_or(0)));
 }
 
 fn say_sort(out: &mut Out, sort: Sort) {

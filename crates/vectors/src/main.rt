@@ -7,7 +7,6 @@ use spelt::put_shown;
 use std::io;
 use std::io::Stdout;
 use wire::decimal::{put_decimal, read_decimal};
-use wire::laying::Laid;
 use wire::text::{Allowed, characters_in};
 
 // Standard output, and how writing to it went: after the first failure nothing more is written.
@@ -86,11 +85,10 @@ fn sums_of_messages(out: &mut Out) {
 // Whether a Decimal is laid down as these eight bytes and read back from them.
 fn decimal_is(bytes: &[u8; 8], value: i64) -> bool {
     let mut d = [0u8; 8];
-    match put_decimal(&mut d, value) {
-        Laid::Wrote(n) => n == 8 && d == *bytes && read_decimal(bytes) == value,
-        Laid::BadText => false,
-        Laid::NoRoom(_) => false,
-    }
+    let Ok(n) = put_decimal(&mut d, value) else {
+        return false;
+    };
+    n == 8 && d == *bytes && read_decimal(bytes) == value
 }
 
 fn decimals(out: &mut Out) {
@@ -159,11 +157,10 @@ fn characters(out: &mut Out) {
 // Whether a character is shown as so many bytes, which stand before zeros.
 fn shown_is(b: u8, count: usize, want: &[u8; 4]) -> bool {
     let mut d = [0u8; 4];
-    match put_shown(&mut d, b) {
-        Laid::Wrote(n) => n == count && d == *want,
-        Laid::BadText => false,
-        Laid::NoRoom(_) => false,
-    }
+    let Ok(n) = put_shown(&mut d, b) else {
+        return false;
+    };
+    n == count && d == *want
 }
 
 fn shown(out: &mut Out) {

@@ -31,6 +31,11 @@ besides-laid e d = go (leb (length e) (length d))
     go true = refl
     go false = refl
 
+-- the length written, where there is room
+pub wrote-laid : (e d : List ℕ) → length e ≤ length d → laid_answer e d ≡ Ok (length e)
+unfolding laid_answer
+wrote-laid e d h = rw (le-leb (length e) (length d) h) refl
+
 -- the whole buffer x, whose rest from a on was lent, and is y afterwards
 abbrev pub lent_from : ℕ → List ℕ → List ℕ → List ℕ
 lent_from a x y = take a x ++ (y ++ drop (length x - a) (drop a x))

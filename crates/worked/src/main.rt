@@ -52,7 +52,7 @@ fn say_number(out: &mut Out, n: u64) {
 // A Decimal as its count of hundred-millionths: the upper half of the 64-bit numbers stands for the negative ones.
 fn say_signed(out: &mut Out, z: i64) {
     let mut d = [0u8; 8];
-    put_decimal(&mut d, z);
+    let _ = put_decimal(&mut d, z);
     let n = read_u64(&d);
     if n < 9223372036854775808 {
         say_number(out, n);
@@ -127,7 +127,7 @@ fn say_text(out: &mut Out, s: &[u8], p: usize) {
 fn say_character(out: &mut Out, b: u8) {
     let mut shown = [0u8; 4];
     let laid = put_shown(&mut shown, b);
-    say(out, front(&shown, laid.besides()));
+    say(out, front(&shown, laid.unwrap_or(0)));
 }
 
 // A text's characters, each as a terminal shows it safely.
