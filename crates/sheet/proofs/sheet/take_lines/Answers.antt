@@ -7,7 +7,7 @@ use borrow.Rule.Slice.PartMut.{put_mid, same_len_mid}
 use Rattle.wire.specs.Laying.{laid, laid_answer}
 use Rattle.session.specs.declared.state.Stepped.{Stepped}
 use Rattle.session.specs.Rules.{ruled}
-use Rattle.sheet.specs.declared.line.Said.TheVariants as said
+use Rattle.std.specs.Prelude.{Some, None}
 use Rattle.sheet.specs.Line.{said_of}
 use Rattle.sheet.specs.Print.{printed, printed_bad}
 use Rattle.sheet.specs.Sheet.{message_of}
@@ -104,8 +104,8 @@ returns-in_default c =
     let h : f.result < length lent = omega (arith, f.ensures.1, lent_length used bytes, c.if-n-rest.false) in
     let x = take (length d - written) (drop written d) in
     let r = c.put_printed in
-    let l = c.in-Line.line in
-    let e : said_of (take f.result lent) ≡ said.Line l = sym c.read_line.ensures ∙ c.in-Line.is in
+    let l = c.in-Some.line in
+    let e : said_of (take f.result lent) ≡ Some l = sym c.read_line.ensures ∙ c.in-Some.is in
     let st : c.ruled-stepped.result ≡ ruled c.loop-rest.day (message_of l) = c.ruled-stepped.ensures ∙ ap (ruled c.loop-rest.day) c.message_of.ensures in
     let bs = printed (ruled c.loop-rest.day (message_of l)) in
     let an : r.result ≡ laid_answer bs x = r.ensures.0 ∙ ap (λ (z : Stepped). laid_answer (printed z) x) st in
@@ -129,8 +129,8 @@ overflow_add-used c =
     let k : length lent ≡ length bytes - used = lent_length used bytes in
     omega arith
 
-pub overflow_add-used-in-Line : goal.overflow_add-used-in-Line
-overflow_add-used-in-Line c =
+pub overflow_add-used-in-Some : goal.overflow_add-used-in-Some
+overflow_add-used-in-Some c =
     let a = c.args in
     let bytes = a.s.now in
     let d = c.loop-rest.d in
@@ -156,8 +156,8 @@ overflow_add-written c =
     let h : f.result < length lent = omega (arith, f.ensures.1, lent_length used bytes, c.if-n-rest.false) in
     let x = take (length d - written) (drop written d) in
     let r = c.put_printed in
-    let l = c.in-Line.line in
-    let e : said_of (take f.result lent) ≡ said.Line l = sym c.read_line.ensures ∙ c.in-Line.is in
+    let l = c.in-Some.line in
+    let e : said_of (take f.result lent) ≡ Some l = sym c.read_line.ensures ∙ c.in-Some.is in
     let st : c.ruled-stepped.result ≡ ruled c.loop-rest.day (message_of l) = c.ruled-stepped.ensures ∙ ap (ruled c.loop-rest.day) c.message_of.ensures in
     let bs = printed (ruled c.loop-rest.day (message_of l)) in
     let an : r.result ≡ laid_answer bs x = r.ensures.0 ∙ ap (λ (z : Stepped). laid_answer (printed z) x) st in
@@ -194,8 +194,8 @@ loop-rest-preserved c =
     let h : f.result < length lent = omega (arith, f.ensures.1, lent_length used bytes, c.if-n-rest.false) in
     let x = take (length d - written) (drop written d) in
     let r = c.put_printed in
-    let l = c.in-Line.line in
-    let e : said_of (take f.result lent) ≡ said.Line l = sym c.read_line.ensures ∙ c.in-Line.is in
+    let l = c.in-Some.line in
+    let e : said_of (take f.result lent) ≡ Some l = sym c.read_line.ensures ∙ c.in-Some.is in
     let st : c.ruled-stepped.result ≡ ruled c.loop-rest.day (message_of l) = c.ruled-stepped.ensures ∙ ap (ruled c.loop-rest.day) c.message_of.ensures in
     let bs = printed (ruled c.loop-rest.day (message_of l)) in
     let an : r.result ≡ laid_answer bs x = r.ensures.0 ∙ ap (λ (z : Stepped). laid_answer (printed z) x) st in
@@ -252,7 +252,7 @@ returns-in_default-put_bad c =
     let x = take (length d - written) (drop written d) in
     let r = c.put_bad in
     let k = c.loop-rest.k in
-    let e : said_of (take f.result lent) ≡ said.Bad = sym c.read_line.ensures ∙ c.in-Bad.is in
+    let e : said_of (take f.result lent) ≡ None = sym c.read_line.ensures ∙ c.in-None.is in
     let full = answer-full (printed_bad k) x _ (sym r.ensures.0 ∙ c.in_default-put_bad.is) in
     let o = take-bad-full a.d.now bytes a.session a.count d c.loop-rest.day c.loop-rest.k used written c.loop-rest.invariant f.result f.ensures.0 h r.new.d e r.ensures.1 full in
     record { value = o.answer; d_after = o.buffer }
@@ -272,8 +272,8 @@ overflow_add-result c =
     let k : length lent ≡ length bytes - used = lent_length used bytes in
     omega arith
 
-pub overflow_add-result-in-Bad : goal.overflow_add-result-in-Bad
-overflow_add-result-in-Bad c =
+pub overflow_add-result-in-None : goal.overflow_add-result-in-None
+overflow_add-result-in-None c =
     let a = c.args in
     let bytes = a.s.now in
     let d = c.loop-rest.d in
@@ -287,8 +287,8 @@ overflow_add-result-in-Bad c =
     let k : length lent ≡ length bytes - used = lent_length used bytes in
     omega arith
 
-pub overflow_add-result-in-Bad-2 : goal.overflow_add-result-in-Bad-2
-overflow_add-result-in-Bad-2 c =
+pub overflow_add-result-in-None-2 : goal.overflow_add-result-in-None-2
+overflow_add-result-in-None-2 c =
     let a = c.args in
     let bytes = a.s.now in
     let d = c.loop-rest.d in
@@ -300,14 +300,14 @@ overflow_add-result-in-Bad-2 c =
     let x = take (length d - written) (drop written d) in
     let r = c.put_bad in
     let k = c.loop-rest.k in
-    let e : said_of (take f.result lent) ≡ said.Bad = sym c.read_line.ensures ∙ c.in-Bad.is in
+    let e : said_of (take f.result lent) ≡ None = sym c.read_line.ensures ∙ c.in-None.is in
     let fit = answer-fits (printed_bad k) x c.in-Ok-put_bad.laid (sym r.ensures.0 ∙ c.in-Ok-put_bad.is) in
     let j : length x ≡ length d - written = lent_length written d in
     let g = taking-length a.d.now bytes a.session a.count d c.loop-rest.day c.loop-rest.k used written c.loop-rest.invariant in
     omega arith
 
-pub shape_of-d-in-Bad : goal.shape_of-d-in-Bad
-shape_of-d-in-Bad c =
+pub shape_of-d-in-None : goal.shape_of-d-in-None
+shape_of-d-in-None c =
     let a = c.args in
     let bytes = a.s.now in
     let d = c.loop-rest.d in
@@ -316,8 +316,8 @@ shape_of-d-in-Bad c =
     let lent = take (length bytes - used) (drop used bytes) in
     same_len_mid written (length d - written) d c.put_bad.new.d c.put_bad.auto.d ∙ (taking-length a.d.now bytes a.session a.count d c.loop-rest.day c.loop-rest.k used written c.loop-rest.invariant).0
 
-pub returns-in-Bad : goal.returns-in-Bad
-returns-in-Bad c =
+pub returns-in-None : goal.returns-in-None
+returns-in-None c =
     let a = c.args in
     let bytes = a.s.now in
     let d = c.loop-rest.d in
@@ -329,7 +329,7 @@ returns-in-Bad c =
     let x = take (length d - written) (drop written d) in
     let r = c.put_bad in
     let k = c.loop-rest.k in
-    let e : said_of (take f.result lent) ≡ said.Bad = sym c.read_line.ensures ∙ c.in-Bad.is in
+    let e : said_of (take f.result lent) ≡ None = sym c.read_line.ensures ∙ c.in-None.is in
     let fit = answer-fits (printed_bad k) x c.in-Ok-put_bad.laid (sym r.ensures.0 ∙ c.in-Ok-put_bad.is) in
     let o = take-bad a.d.now bytes a.session a.count d c.loop-rest.day c.loop-rest.k used written c.loop-rest.invariant f.result f.ensures.0 h r.new.d e r.ensures.1 fit.0 c.in-Ok-put_bad.laid fit.1 in
     record { value = o.answer; d_after = o.buffer }
