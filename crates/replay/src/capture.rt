@@ -57,7 +57,8 @@ impl Capture {
         Ok(())
     }
 
-    // How many bytes follow those that are looked at. A read that fails ends them too.
+    // How many bytes follow those that are looked at. A read that fails ends them too. Nothing says that an input ends: reads are counted up to a number
+    // that no run reaches.
     pub(crate) fn count_left(&mut self, input: &mut impl Read) -> u64 {
         let mut sum = (self.end - self.from) as u64;
         if self.ended {
