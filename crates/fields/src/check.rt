@@ -6,7 +6,7 @@ ghost use Rattle.fields.specs.Check.{whole, yes_no, fixed, variable, check_sort,
 ghost use Rattle.fields.specs.Shapes.{shape_of, shape_at};
 
 use tables::dictionary::{NO, Sort, YES, sort_of};
-use tables::table::{EXECUTION_REPORT, Row, row_of};
+use tables::table::{EXECUTION_REPORT, row_of};
 use wire::text::{Allowed, Text, fixed_text, variable_text};
 
 // Why a field is bad, as it overruns the bytes, is no text, or is neither 'Y' nor 'N' where it must be: document 01 has one
@@ -92,14 +92,13 @@ fn check_sort(sort: Sort, s: &[u8]) -> Result<Checked, Reason>
 }
 
 // The field that stands at position p in a message of this type, by its name and the dictionary.
+#[tactic(auto, unfolding(crate::specs::Check::check_row, tables::specs::Line::field_of))]
 pub(crate) fn check_row(messagetype: u8, p: usize, s: &[u8]) -> Result<Checked, Reason>
     ensures { result ≡ check_row (row_of messagetype p) s.now }
 {
-    match row_of(messagetype, p) {
-        Row::Required(field) => check_sort(sort_of(field), s),
-        Row::Optional(field) => check_sort(sort_of(field), s),
-        Row::UnknownPosition => Err(Reason::Field),
-        Row::UnknownType => Err(Reason::Field),
+    match row_of(messagetype, p).field() {
+        Some(field) => check_sort(sort_of(field), s),
+        None => Err(Reason::Field),
     }
 }
 

@@ -5,7 +5,7 @@ ghost use Rattle.wire.specs.Laying.{Lays};
 ghost use Rattle.fields.specs.Plain.{plain_sort, plain_row};
 
 use tables::dictionary::{Sort, sort_of};
-use tables::table::{Row, row_of};
+use tables::table::row_of;
 use wire::laying::{Laid, put_bytes};
 use wire::number::{put_u64, read_eight};
 use wire::text::{copy_fixed, copy_variable};
@@ -35,14 +35,13 @@ fn copy_sort(d: &mut [u8], sort: Sort, s: &[u8]) -> Laid
 }
 
 // The field at position p of a message of this type, by its name and the dictionary; nothing where no row names one.
+#[tactic(auto, unfolding(crate::specs::Plain::plain_row, tables::specs::Line::field_of))]
 fn copy_row(d: &mut [u8], messagetype: u8, p: usize, s: &[u8]) -> Laid
     ensures { Lays (plain_row (row_of messagetype p) s.now) d.old result d.new }
 {
-    match row_of(messagetype, p) {
-        Row::Required(field) => copy_sort(d, sort_of(field), s),
-        Row::Optional(field) => copy_sort(d, sort_of(field), s),
-        Row::UnknownPosition => Laid::Wrote(0),
-        Row::UnknownType => Laid::Wrote(0),
+    match row_of(messagetype, p).field() {
+        Some(field) => copy_sort(d, sort_of(field), s),
+        None => Laid::Wrote(0),
     }
 }
 
