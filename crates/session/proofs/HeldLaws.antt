@@ -1,13 +1,12 @@
--- Laws of a Comp ID in its twelve bytes: zeros looked at byte by byte; and a day that is made has its Comp ID in plain form.
+-- Laws of a Comp ID in its twelve bytes: zeros as they are lent; and a day that is made has its Comp ID in plain form.
 use mathlib.Core.Path.{◌≡◌, refl, sym, ap, ◌∙◌}
-use mathlib.Core.Bool.{true, false, cond}
+use mathlib.Core.Bool.{true}
 use mathlib.Core.List.{List, ◌++◌}
-use Prim.Native.Nat.{ℕ, zero, suc, ◌+◌, ◌-◌, ◌≤◌, ◌<◌}
+use Prim.Native.Nat.{ℕ, zero, suc, ◌-◌, ◌≤◌}
 use native.Mathlib.Nat.{le_of_eq}
-use native.Mathlib.Numerals.{add-one}
-use lib.Dec.{eqb, leb}
-use lib.ListN.{length, take, drop, get_or, replicate, length-drop, drop_of_length-le}
-use lib.Seq.{drop-append_seam, drop-cons, take_all}
+use lib.Dec.{leb}
+use lib.ListN.{length, take, drop, replicate, length-drop, drop_of_length-le}
+use lib.Seq.{drop-append_seam, take_all}
 use Rattle.wire.specs.declared.text.Allowed.TheVariants.{Ascii}
 use Rattle.wire.specs.Text.{fixed_part, fixed_bytes}
 use Rattle.message.specs.Vet.{good_comp_id}
@@ -16,19 +15,14 @@ use Rattle.session.specs.Day.{day}
 use Rattle.session.specs.Held.{all_zero, is_plain_comp_id}
 use Rattle.session.proofs.ArrivalLaws.{day-ours}
 
--- the loop, at byte i
-module _ (s : List ℕ) (i : ℕ) where
-  pub zero-at : i < length s → all_zero (drop i s) ≡ cond (eqb (get_or s i 0) 0) (all_zero (drop (i + 1) s)) false
-  unfolding all_zero
-  zero-at l = rw add-one (ap all_zero (drop-cons s i 0 l))
+-- past the end there is none
+pub zero_ended : (s : List ℕ) (i : ℕ) → length s ≤ i → all_zero (drop i s) ≡ true
+unfolding all_zero
+zero_ended s i l = ap all_zero (drop_of_length-le s l)
 
-  pub zero_ended : length s ≤ i → all_zero (drop i s) ≡ true
-  unfolding all_zero
-  zero_ended l = ap all_zero (drop_of_length-le s l)
-
-  -- the bytes from i on, as they are lent
-  pub zero_rest : all_zero (take (length s - i) (drop i s)) ≡ all_zero (drop i s)
-  zero_rest = ap all_zero (take_all (length s - i) (drop i s) (le_of_eq (length-drop i s)))
+-- the bytes from i on, as they are lent
+pub zero_rest : (s : List ℕ) (i : ℕ) → all_zero (take (length s - i) (drop i s)) ≡ all_zero (drop i s)
+zero_rest s i = ap all_zero (take_all (length s - i) (drop i s) (le_of_eq (length-drop i s)))
 
 zeros : (k : ℕ) → all_zero (replicate k 0) ≡ true
 unfolding all_zero

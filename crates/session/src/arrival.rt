@@ -24,7 +24,7 @@ use wire::text::{Allowed, fixed_part};
 const GAP_FILL: u64 = YES as u64;
 
 // A message's type, with the numbers of its fields that the rules name.
-#[derive(Clone, Copy)]
+#[derive(Clone, Copy, PartialEq, Eq, Debug)]
 pub enum Content {
     Heartbeat,
     // Test Request ID.
@@ -45,7 +45,7 @@ pub enum Content {
     Business,
 }
 
-#[derive(Clone, Copy)]
+#[derive(Clone, Copy, PartialEq, Eq, Debug)]
 pub struct Message {
     pub number: u32,
     pub possdup: bool,
@@ -64,17 +64,7 @@ pub enum Arrival {
 fn is_same(a: &[u8], b: &[u8]) -> bool
     ensures { result ≡ same_bytes a.now b.now }
 {
-    if a.len() != b.len() {
-        return false;
-    }
-    let mut i = 0;
-    while i < a.len() {
-        if a[i] != b[i] {
-            return false;
-        }
-        i += 1;
-    }
-    true
+    a == b
 }
 
 // The number of a field, which its width keeps within `most`; 0 where there is none.
@@ -172,15 +162,13 @@ fn is_same_start(a: &[u8], b: &[u8]) -> bool
     if read_eight(a) != read_eight(b) {
         return false;
     }
-    let mut i = 8;
-    while i < COMP_ID_BYTES {
+    for i in 8..COMP_ID_BYTES {
         if a[i] != b[i] {
             return false;
         }
         if a[i] == 0 {
             return true;
         }
-        i += 1;
     }
     false
 }
@@ -233,12 +221,9 @@ impl Session {
     fn due_length(self, s: &[u8], reading: Reading) -> usize
         ensures { result ≡ due_length self s.now reading }
     {
-        let state = self.state;
         let ours = self.ours;
-        match state {
-            State::Down => return 0,
-            State::Waiting => return 0,
-            State::Live => {}
+        if self.state != State::Live {
+            return 0;
         }
         match reading {
             Reading::Good { header, length } => {

@@ -43,14 +43,7 @@ fn state_at(n: u32) -> State
 fn is_all_zero(s: &[u8]) -> bool
     ensures { result ≡ all_zero s.now }
 {
-    let mut i = 0;
-    while i < s.len() {
-        if s[i] != 0 {
-            return false;
-        }
-        i += 1;
-    }
-    true
+    s.iter().all(|byte| *byte == 0)
 }
 
 fn is_plain_comp_id(ours: &[u8]) -> bool

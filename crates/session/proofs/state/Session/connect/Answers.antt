@@ -1,28 +1,33 @@
 -- `session::state::Session::connect` meets its contract: the state, then our number, then the password decide.
 use mathlib.Core.Path.{sym, ◌∙◌}
+use mathlib.Core.Logic.{inl, inr}
 use borrow.Author.Tests.{eq-eqb, ne_eqb}
 use Rattle.session.specs.Day.{connect, connect_in}
+use Rattle.session.proofs.CaseLaws.{is-down, not-true, not-false, not-down}
 use Rattle.session.proofs.state.Session.connect.Goals as goal
 
-pub returns-in-Waiting : goal.returns-in-Waiting
+pub returns-then-ne : goal.returns-then-ne
 unfolding connect connect_in
-returns-in-Waiting c = simp (c.not_connected.ensures, c.in-Waiting.is)
-
-pub returns-in-Live : goal.returns-in-Live
-unfolding connect connect_in
-returns-in-Live c = simp (c.not_connected-in-Live.ensures, c.in-Live.is)
+returns-then-ne c =
+    elim (not-down c.args.self.state (not-true _ (sym c.ne.ensures ∙ c.if-ne.true))) [
+      | inl e ↦ simp (c.not_connected.ensures, e)
+      | inr e ↦ simp (c.not_connected.ensures, e)
+    ]
 
 pub returns-then-o : goal.returns-then-o
 unfolding connect connect_in
-returns-then-o c = simp (c.not_connected-then-o.ensures, c.in-Down.is, eq-eqb _ _ c.if-o.true)
+returns-then-o c =
+    let up = is-down c.args.self.state (not-false _ (sym c.ne.ensures ∙ c.if-ne.false)) in
+    simp (c.not_connected-then-o.ensures, up, eq-eqb _ _ c.if-o.true)
 
 pub returns-then-not-takes_text : goal.returns-then-not-takes_text
 unfolding connect connect_in
 returns-then-not-takes_text c =
+    let up = is-down c.args.self.state (not-false _ (sym c.ne.ensures ∙ c.if-ne.false)) in
     let left = ne_eqb _ _ c.if-o.false in
     simp (
       c.not_connected-then-not-takes_text.ensures,
-      c.in-Down.is,
+      up,
       left,
       ← c.sort_of.ensures,
       ← c.width.ensures,
@@ -32,10 +37,11 @@ returns-then-not-takes_text c =
 pub returns : goal.returns
 unfolding connect connect_in
 returns c =
+    let up = is-down c.args.self.state (not-false _ (sym c.ne.ensures ∙ c.if-ne.false)) in
     let number = ne_eqb _ _ c.if-o.false in
     simp (
       c.moved.ensures,
-      c.in-Down.is,
+      up,
       number,
       ← c.sort_of.ensures,
       ← c.width.ensures,

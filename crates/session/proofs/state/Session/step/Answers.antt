@@ -1,15 +1,13 @@
--- `session::state::Session::step` meets its contract: the state decides whether the bytes are looked at.
+-- `session::state::Session::step` meets its contract: the state decides.
+use mathlib.Core.Path.{sym, ◌∙◌}
 use Rattle.session.specs.Day.{step, step_by, step_in}
+use Rattle.session.proofs.CaseLaws.{is-down}
 use Rattle.session.proofs.state.Session.step.Goals as goal
 
-pub returns-in-Down : goal.returns-in-Down
+pub returns-then-eq : goal.returns-then-eq
 unfolding step step_by step_in
-returns-in-Down c = simp (c.unmoved.ensures, c.in-Down.is)
+returns-then-eq c = simp (c.unmoved.ensures, is-down c.args.self.state (sym c.eq.ensures ∙ c.if-eq.true))
 
-pub returns-in-Waiting : goal.returns-in-Waiting
+pub returns : goal.returns
 unfolding step
-returns-in-Waiting c = simp (c.step_by.ensures, c.read.ensures)
-
-pub returns-in-Live : goal.returns-in-Live
-unfolding step
-returns-in-Live c = simp (c.step_by-in-Live.ensures, c.read-in-Live.ensures)
+returns c = simp (c.step_by.ensures, c.read.ensures)

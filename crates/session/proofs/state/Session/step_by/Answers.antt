@@ -1,15 +1,18 @@
--- `session::state::Session::step_by` meets its contract: the state decides whether the message counts.
+-- `session::state::Session::step_by` meets its contract: the state decides.
+use mathlib.Core.Path.{sym, ◌∙◌}
+use mathlib.Core.Logic.{inl, inr}
 use Rattle.session.specs.Day.{step_by, step_in}
+use Rattle.session.proofs.CaseLaws.{is-down, not-down}
 use Rattle.session.proofs.state.Session.step_by.Goals as goal
 
-pub returns-in-Down : goal.returns-in-Down
+pub returns-then-eq : goal.returns-then-eq
 unfolding step_by step_in
-returns-in-Down c = simp (c.unmoved.ensures, c.in-Down.is)
+returns-then-eq c = simp (c.unmoved.ensures, is-down c.args.self.state (sym c.eq.ensures ∙ c.if-eq.true))
 
-pub returns-in-Waiting : goal.returns-in-Waiting
+pub returns : goal.returns
 unfolding step_by step_in
-returns-in-Waiting c = simp (c.arrived.ensures, c.arrival_by.ensures, c.in-Waiting.is)
-
-pub returns-in-Live : goal.returns-in-Live
-unfolding step_by step_in
-returns-in-Live c = simp (c.arrived-in-Live.ensures, c.arrival_by-in-Live.ensures, c.in-Live.is)
+returns c =
+    elim (not-down c.args.self.state (sym c.eq.ensures ∙ c.if-eq.false)) [
+      | inl e ↦ simp (c.arrived.ensures, c.arrival_by.ensures, e)
+      | inr e ↦ simp (c.arrived.ensures, c.arrival_by.ensures, e)
+    ]
