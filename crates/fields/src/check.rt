@@ -23,6 +23,7 @@ pub struct Checked {
     pub plain: usize,
 }
 
+#[tactic(auto, unfolding(crate::specs::Check::whole))]
 fn check_whole(width: usize, s: &[u8]) -> Result<Checked, Reason>
     ensures { result ≡ whole width s.now }
 {
@@ -35,20 +36,17 @@ fn check_whole(width: usize, s: &[u8]) -> Result<Checked, Reason>
     })
 }
 
+#[tactic(auto, unfolding(crate::specs::Check::yes_no))]
 fn check_yes_no(s: &[u8]) -> Result<Checked, Reason>
     ensures { result ≡ yes_no s.now }
 {
-    if s.len() == 0 {
-        return Err(Reason::Field);
-    }
-    let b = s[0];
-    match b {
-        YES => Ok(Checked { taken: 1, plain: 1 }),
-        NO => Ok(Checked { taken: 1, plain: 1 }),
+    match s {
+        [YES | NO, ..] => Ok(Checked { taken: 1, plain: 1 }),
         _ => Err(Reason::Field),
     }
 }
 
+#[tactic(auto, unfolding(crate::specs::Check::fixed, crate::specs::Check::fixed_taken))]
 fn check_fixed(allowed: Allowed, width: usize, s: &[u8]) -> Result<Checked, Reason>
     ensures { result ≡ fixed allowed width s.now }
 {
@@ -65,6 +63,7 @@ fn check_fixed(allowed: Allowed, width: usize, s: &[u8]) -> Result<Checked, Reas
 }
 
 // The plain form of a variable text has two bytes of length, its characters and the null.
+#[tactic(auto, unfolding(crate::specs::Check::variable, crate::specs::Check::variable_taken))]
 fn check_variable(allowed: Allowed, size: usize, s: &[u8]) -> Result<Checked, Reason>
     ensures { result ≡ variable allowed size s.now }
 {
@@ -78,6 +77,7 @@ fn check_variable(allowed: Allowed, size: usize, s: &[u8]) -> Result<Checked, Re
 }
 
 // A field of this sort at the front of s.
+#[tactic(auto, unfolding(crate::specs::Check::check_sort))]
 fn check_sort(sort: Sort, s: &[u8]) -> Result<Checked, Reason>
     ensures { result ≡ check_sort sort s.now }
 {
@@ -126,6 +126,7 @@ pub enum Shape {
 }
 
 // The shape of each position of an Execution Report in one step.
+#[tactic(auto, unfolding(crate::specs::Shapes::shape_of, crate::specs::Shapes::shape_in, tables::specs::Dictionary::entry, tables::specs::Dictionary::sort_of, tables::specs::Tables::row_of, tables::specs::Tables::tables_of, tables::specs::Reports::union_at, tables::specs::Reports::joined, tables::specs::Reports::not_required, tables::specs::Line::row_at, tables::specs::Line::is_required, tables::specs::Reports::nine_tables, tables::specs::Reports::reports, tables::specs::Reports::add_line, tables::specs::Reports::column))]
 fn report_shape(p: usize) -> Shape
     ensures { result ≡ shape_of (row_of execution_report_type p) }
 {
@@ -171,6 +172,7 @@ fn report_shape(p: usize) -> Shape
 }
 
 // The shape of a report's field; that of another message's is not worked out, as most messages of a day are reports.
+#[tactic(auto, unfolding(crate::specs::Shapes::shape_at))]
 pub fn shape_at(messagetype: u8, p: usize) -> Shape
     ensures { result ≡ shape_at messagetype p }
 {

@@ -11,6 +11,7 @@ use wire::map::{MAP_POSITIONS, is_present};
 use wire::number::read_u16;
 
 // How many bytes a field of this sort at the front of s takes, checked or not.
+#[tactic(auto, unfolding(crate::specs::Cut::extent))]
 fn extent_of(sort: Sort, s: &[u8]) -> usize
     ensures { result ≡ extent sort s.now }
 {

@@ -21,6 +21,7 @@ fn copy_front(d: &mut [u8], width: usize, s: &[u8]) -> Laid
 }
 
 // A field of this sort at the front of s, in plain form.
+#[tactic(auto, unfolding(crate::specs::Plain::plain_sort))]
 fn copy_sort(d: &mut [u8], sort: Sort, s: &[u8]) -> Laid
     ensures { Lays (plain_sort sort s.now) d.old result d.new }
 {
