@@ -59,10 +59,7 @@ pub fn extent_at(messagetype: u8, p: usize, s: &[u8]) -> usize
 pub fn behind(s: &[u8], n: usize) -> &[u8]
     ensures { result.now ≡ drop n s.now }
 {
-    if s.len() < n {
-        return &s[..0];
-    }
-    &s[n..]
+    &s[n.min(s.len())..]
 }
 
 // The bytes of a body from the field at position p on; none where the map has the position clear.

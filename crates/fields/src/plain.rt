@@ -14,10 +14,7 @@ use wire::text::{copy_fixed, copy_variable};
 fn copy_front(d: &mut [u8], width: usize, s: &[u8]) -> Laid
     ensures { Lays (take width s.now) d.old result d.new }
 {
-    if s.len() < width {
-        return put_bytes(d, s);
-    }
-    put_bytes(d, &s[..width])
+    put_bytes(d, &s[..width.min(s.len())])
 }
 
 // A field of this sort at the front of s, in plain form.
