@@ -93,8 +93,7 @@ pub fn take_lines(session: Session, count: u64, s: &[u8], d: &mut [u8]) -> Taken
         match read_line(&rest[..n]) {
             Some(line) => {
                 let stepped = day.ruled(message_of(line));
-                let laid = put_printed(&mut d[written..], stepped);
-                if laid.refusal() != 0 {
+                let Ok(laid) = put_printed(&mut d[written..], stepped) else {
                     return Taken {
                         session: day,
                         count: k,
@@ -102,15 +101,14 @@ pub fn take_lines(session: Session, count: u64, s: &[u8], d: &mut [u8]) -> Taken
                         written,
                         end: End::NoRoom,
                     };
-                }
+                };
                 day = stepped.session;
                 k = next_count(k);
                 used += n + 1;
-                written += laid.besides();
+                written += laid;
             }
             None => {
-                let laid = put_bad(&mut d[written..], k);
-                if laid.refusal() != 0 {
+                let Ok(laid) = put_bad(&mut d[written..], k) else {
                     return Taken {
                         session: day,
                         count: k,
@@ -118,12 +116,12 @@ pub fn take_lines(session: Session, count: u64, s: &[u8], d: &mut [u8]) -> Taken
                         written,
                         end: End::NoRoom,
                     };
-                }
+                };
                 return Taken {
                     session: day,
                     count: k,
                     used: used + (n + 1),
-                    written: written + laid.besides(),
+                    written: written + laid,
                     end: End::BadLine,
                 };
             }
