@@ -67,7 +67,7 @@ fn put_again(d: &mut [u8], s: &[u8]) -> Written {
         ..header_in(s)
     };
     let mut map = [0u8; MAP_BYTES];
-    put_bytes(&mut map, map_in(s));
+    let _ = put_bytes(&mut map, map_in(s));
     write(d, header, comp_id_in(s), &map, body_in(front_length(s), s))
 }
 

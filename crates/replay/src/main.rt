@@ -99,33 +99,33 @@ fn flush(rt: &(impl Print + Eprint), out: &[u8], said: usize) -> bool {
 fn say(rt: &(impl Print + Eprint), out: &mut [u8], said: usize, text: &[u8]) -> usize {
     if said <= out.len() {
         if text.len() <= out.len() - said {
-            put_bytes(&mut out[said..], text);
+            let _ = put_bytes(&mut out[said..], text);
             return said + text.len();
         }
     }
     if !flush(rt, out, said) {
         return usize::MAX;
     }
-    put_bytes(out, text);
+    let _ = put_bytes(out, text);
     front(out, text.len()).len()
 }
 
 fn say_number(rt: &(impl Print + Eprint), out: &mut [u8], said: usize, n: u64) -> usize {
     let mut text = [0u8; 32];
     let laid = put_number(&mut text, n);
-    say(rt, out, said, front(&text, laid.besides()))
+    say(rt, out, said, front(&text, laid.unwrap_or(0)))
 }
 
 fn say_amount(rt: &(impl Print + Eprint), out: &mut [u8], said: usize, z: i64) -> usize {
     let mut text = [0u8; 32];
     let laid = put_amount(&mut text, z);
-    say(rt, out, said, front(&text, laid.besides()))
+    say(rt, out, said, front(&text, laid.unwrap_or(0)))
 }
 
 fn say_name(rt: &(impl Print + Eprint), out: &mut [u8], said: usize, field: Field) -> usize {
     let mut text = [0u8; 64];
     let laid = put_name(&mut text, field);
-    say(rt, out, said, front(&text, laid.besides()))
+    say(rt, out, said, front(&text, laid.unwrap_or(0)))
 }
 
 // ` label=n`.
@@ -143,7 +143,7 @@ fn say_labelled(
 fn say_character(rt: &(impl Print + Eprint), out: &mut [u8], said: usize, b: u8) -> usize {
     let mut text = [0u8; 4];
     let laid = put_shown(&mut text, b);
-    say(rt, out, said, front(&text, laid.besides()))
+    say(rt, out, said, front(&text, laid.unwrap_or(0)))
 }
 
 // The characters of a text that is allowed accents, each as a terminal shows it safely.
@@ -930,7 +930,7 @@ fn begins(s: &[u8], text: &[u8]) -> bool {
 // Our Comp ID in plain form; zeros where it is no Comp ID.
 fn plain_comp_id(text: &[u8]) -> [u8; COMP_ID_BYTES] {
     let mut bytes = [0u8; COMP_ID_BYTES];
-    put_fixed(&mut bytes, Allowed::Ascii, COMP_ID_BYTES, text);
+    let _ = put_fixed(&mut bytes, Allowed::Ascii, COMP_ID_BYTES, text);
     bytes
 }
 

@@ -91,29 +91,27 @@ pub fn take_lines(session: Session, count: u64, s: &[u8], d: &mut [u8]) -> Taken
         match read_line(&rest[..n]) {
             Some(line) => {
                 let stepped = so_far.session.ruled(message_of(line));
-                let laid = put_printed(&mut d[so_far.written..], stepped);
-                if laid.refusal() != 0 {
+                let Ok(laid) = put_printed(&mut d[so_far.written..], stepped) else {
                     return Taken {
                         end: End::NoRoom,
                         ..so_far
                     };
-                }
+                };
                 so_far.session = stepped.session;
                 so_far.count = next_count(k);
                 so_far.used += n + 1;
-                so_far.written += laid.besides();
+                so_far.written += laid;
             }
             None => {
-                let laid = put_bad(&mut d[so_far.written..], k);
-                if laid.refusal() != 0 {
+                let Ok(laid) = put_bad(&mut d[so_far.written..], k) else {
                     return Taken {
                         end: End::NoRoom,
                         ..so_far
                     };
-                }
+                };
                 return Taken {
                     used: so_far.used + (n + 1),
-                    written: so_far.written + laid.besides(),
+                    written: so_far.written + laid,
                     end: End::BadLine,
                     ..so_far
                 };

@@ -83,7 +83,7 @@ fn print_shown(rt: &impl Print, text: &[u8]) -> io::Result<()> {
     for b in text {
         let mut shown = [0u8; 4];
         let laid = put_shown(&mut shown, *b);
-        rt.write_all(shown.get(..laid.besides()).unwrap_or(&shown))?;
+        rt.write_all(shown.get(..laid.unwrap_or(0)).unwrap_or(&shown))?;
     }
     Ok(())
 }
