@@ -1,16 +1,14 @@
 use mathlib.Core.Path.{◌≡◌, sym, ap, ◌∙◌}
 use mathlib.Core.Bool.{true}
-use Prim.Native.Nat.{◌+◌, ◌<◌}
+use Prim.Native.Nat.{◌<◌}
 use native.Mathlib.Omega.{arith}
-use lib.ListN.{length, length-set}
+use lib.ListN.{length}
 use Rattle.plain.specs.Arrivals.{is_full}
 use Rattle.plain.proofs.ListLaws.{full-nothing, has_room, is-full, has-none}
 use Rattle.plain.proofs.WalkLaws.{walked_none, walked_next, walked_all, walked-answer}
 use Rattle.plain.proofs.arrive.Goals as goal
 use Rattle.plain.proofs.arrive.Goals.{then-count-ge-MOST_ARRIVALS-via-then-count-ge-MOST_ARRIVALS, then-count-ge-MOST_ARRIVALS-via-else-count-ge-MOST_ARRIVALS+then-list-count}
-use Rattle.plain.specs.Arrivals.{lines_in}
-use Rattle.plain.specs.Plain.{ruled, follows}
-use lib.ListN.{set, take}
+use Rattle.plain.specs.Plain.{ruled}
 
 pub returns-then-count-ge-MOST_ARRIVALS : goal.returns-then-count-ge-MOST_ARRIVALS
 returns-then-count-ge-MOST_ARRIVALS c =

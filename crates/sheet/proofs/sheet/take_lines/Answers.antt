@@ -1,13 +1,12 @@
 use mathlib.Core.Path.{◌≡◌, refl, sym, ap, ◌∙◌, subst}
-use Prim.Native.Nat.{ℕ, ◌+◌, ◌-◌, ◌<◌, ◌≤◌}
+use Prim.Native.Nat.{ℕ, ◌+◌, ◌-◌, ◌<◌}
 use native.Mathlib.Omega.{arith}
 use lib.ListN.{length, take, drop}
-use lib.Seq.{length-take-le}
-use borrow.Rule.Slice.PartMut.{put_mid, same_len_mid}
+use borrow.Rule.Slice.PartMut.{put_mid}
 use Rattle.wire.specs.Laying.{laid, laid_answer}
 use Rattle.session.specs.declared.state.Stepped.{Stepped}
 use Rattle.session.specs.Rules.{ruled}
-use Rattle.std.specs.Prelude.{Option, Some, None}
+use Rattle.std.specs.Prelude.{Some, None}
 use Rattle.sheet.specs.Line.{said_of}
 use Rattle.sheet.specs.Print.{printed, printed_bad}
 use Rattle.sheet.specs.declared.sheet.End.{End}
@@ -101,10 +100,12 @@ loop-rest-preserved c =
     let fit = answer-fits bs x c.in-Ok.laid (sym an ∙ c.in-Ok.is) in
     let y = put_mid written (length d - written) d r.new.d in
     let next = used + (f.result + 1) in
-    let more = written + c.in-Ok.laid in
-    (subst (λ (z : Stepped). Taking a.d.now bytes a.session a.count y z.session c.next_count.result next more) (sym st)
-    (subst (λ (z : ℕ). Taking a.d.now bytes a.session a.count y (ruled c.loop-rest.so_far.session (message_of l)).session z next more) (sym c.next_count.ensures)
-    (take-line a.d.now bytes a.session a.count d c.loop-rest.so_far.session c.loop-rest.so_far.count used written c.loop-rest.invariant.0 f.result f.ensures.0 h r.new.d l e p fit.0 c.in-Ok.laid fit.1)), c.loop-rest.invariant.1)
+    let more = written + c.in-Ok.laid in (
+      subst (λ (z : Stepped). Taking a.d.now bytes a.session a.count y z.session c.next_count.result next more) (sym st)
+          (subst (λ (z : ℕ). Taking a.d.now bytes a.session a.count y (ruled c.loop-rest.so_far.session (message_of l)).session z next more) (sym c.next_count.ensures)
+          (take-line a.d.now bytes a.session a.count d c.loop-rest.so_far.session c.loop-rest.so_far.count used written c.loop-rest.invariant.0 f.result f.ensures.0 h r.new.d l e p fit.0 c.in-Ok.laid fit.1)),
+      c.loop-rest.invariant.1,
+    )
 
 pub returns-in_default-put_bad : goal.returns-in_default-put_bad
 returns-in_default-put_bad c =
