@@ -33,14 +33,15 @@ pub enum LineCode {
     BadInterval,
 }
 
-// A line; or why there is none, beside a line that no message is for.
+// A line; or why there is none, beside a line that no message is for, which C is shown then.
 #[derive(Clone, Copy)]
 pub struct LineMade {
     pub code: LineCode,
     pub line: Line,
 }
 
-// Connect's answer, as the session gives it.
+// Connect's answer, as the session gives it. This, a step's answer and business taken are no generic structs shared with the
+// session's: no function works on both, and each says by its member's name whether it holds a session or a line.
 #[derive(Clone, Copy)]
 pub struct LineConnected {
     pub line: Line,
@@ -180,7 +181,7 @@ fn is_sending(done: Done) -> bool
     (code.number() == 0) & (done.sends != 0)
 }
 
-// Whether these can be a line's interval, its clock and its waits.
+// Whether these can be a line's interval, its clock and its waits. They come singly, since there is no line before this holds.
 fn is_held_line(live: bool, interval: u32, tested: u32, now: u64, sent: u64, heard: u64) -> bool
     ensures { result ≡ is_held_line live interval tested now sent heard }
 {

@@ -49,7 +49,8 @@ pub struct Ticked {
     pub act: Option<Act>,
 }
 
-// Whether a wait that began at `since` is over at n. The sum is never made, so that nothing overflows.
+// Whether a wait that began at `since` is over at n. The sum is never made, so that nothing overflows; `saturating_sub` would not
+// do, since a wait of 0 that begins later is not over.
 fn reached(since: u64, wait: u64, n: u64) -> bool
     ensures { result ≡ reached since wait n }
 {
