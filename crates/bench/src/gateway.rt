@@ -9,7 +9,6 @@ use plan::A_PAIR;
 use std::alloc::AllocError;
 use std::io::{BufRead, Read};
 use tables::table::{BUSINESS_MESSAGE_REJECT, EXECUTION_REPORT};
-use wire::laying::put_bytes;
 use wire::map::MAP_BYTES;
 use wire::text::LONGEST;
 use writer::send::put_gap_fill;
@@ -68,9 +67,9 @@ fn put_again(d: &mut [u8], s: &[u8]) -> Result<usize, Refusal> {
         possdup: 1,
         ..header_in(s)
     };
-    let mut map = [0u8; MAP_BYTES];
-    let _ = put_bytes(&mut map, map_in(s));
-    write(d, header, comp_id_in(s), &map, body_in(front_length(s), s))
+    let none = [0u8; MAP_BYTES];
+    let map = map_in(s).first_chunk().unwrap_or(&none);
+    write(d, header, comp_id_in(s), map, body_in(front_length(s), s))
 }
 
 // One part of the plan, over the list from its first number on.

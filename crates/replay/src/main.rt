@@ -29,7 +29,7 @@ use std::io::{BufWriter, Read, Write};
 use std::rt::Files;
 use std::{fs, io, str};
 use tables::dictionary::{Field, Sort, sort_of};
-use tables::table::{Row as Place, row_of};
+use tables::table::row_of;
 use wire::decimal::read_decimal;
 use wire::text::{Allowed, LONGEST, fixed_part};
 
@@ -97,9 +97,8 @@ fn print_field(
     s: &[u8],
 ) -> io::Result<()> {
     let [position, sort, at, count, value] = *listed;
-    let field = match row_of(messagetype, position as usize) {
-        Place::Required(field) | Place::Optional(field) => field,
-        Place::UnknownPosition | Place::UnknownType => return Ok(()),
+    let Some(field) = row_of(messagetype, position as usize).field() else {
+        return Ok(());
     };
     out.write_all(b"  ")?;
     print_name(out, field)?;
