@@ -6,6 +6,7 @@ ghost use Rattle.line.specs.Line.{is_interval, line_number, quiet_line, not_a_li
 
 use calls::{Done, Ended, is_heard, steps};
 use message::read::Reading;
+use message::refusal::Refusal;
 use session::day::Made;
 use session::state::{Answer, Code, Halt, Send, Session, State, Stepped};
 
@@ -88,6 +89,7 @@ impl LineCode {
     }
 }
 
+#[tactic(auto, unfolding(crate::specs::Line::is_interval))]
 fn is_interval(interval: u32) -> bool
     ensures { result ≡ is_interval interval }
 {
@@ -150,6 +152,7 @@ pub(crate) fn is_live(state: State) -> bool
 }
 
 // Whether a wait goes on: the session was Live and stays so, and nothing ended the wait.
+#[tactic(auto, unfolding(crate::specs::Line::goes_on))]
 fn goes_on(before: bool, after: bool, ended: bool) -> bool
     ensures { result ≡ goes_on before after ended }
 {
@@ -157,6 +160,7 @@ fn goes_on(before: bool, after: bool, ended: bool) -> bool
 }
 
 // Since when a wait lasts: it goes on, or starts at n where the session is Live, and elsewhere there is none.
+#[tactic(auto, unfolding(crate::specs::Line::wait_since))]
 fn wait_since(goes: bool, live: bool, n: u64, since: u64) -> u64
     ensures { result ≡ wait_since goes live n since }
 {
@@ -182,6 +186,7 @@ fn is_sending(done: Done) -> bool
 }
 
 // Whether these can be a line's interval, its clock and its waits. They come singly, since there is no line before this holds.
+#[tactic(auto, unfolding(crate::specs::Line::is_held_line))]
 fn is_held_line(live: bool, interval: u32, tested: u32, now: u64, sent: u64, heard: u64) -> bool
     ensures { result ≡ is_held_line live interval tested now sent heard }
 {
@@ -233,6 +238,7 @@ impl Line {
     }
 
     // A fresh day with an interval of 1 to 60 seconds: 6, then 24.
+    #[tactic(auto, unfolding(crate::specs::Line::fresh_line))]
     pub fn fresh(comp: &[u8], interval: u32) -> LineMade
         ensures { result ≡ fresh_line comp.now interval }
     {
@@ -240,6 +246,7 @@ impl Line {
     }
 
     // A day that goes on from saved E and O: 23, 6, then 24.
+    #[tactic(auto, unfolding(crate::specs::Line::saved_line))]
     pub fn saved(comp: &[u8], e: u32, o: u32, interval: u32) -> LineMade
         ensures { result ≡ saved_line comp.now e o interval }
     {
@@ -270,6 +277,7 @@ impl Line {
     }
 
     // The line at time t with another session. Every call but a tick that does nothing makes its line here.
+    #[tactic(auto, unfolding(crate::specs::Line::moved_line))]
     pub(crate) fn moved(self, t: u64, session: Session, heard: bool, sent: bool) -> Line
         ensures { result ≡ moved_line self t session heard sent }
     {
@@ -289,6 +297,7 @@ impl Line {
     }
 
     // Connect at time t, as the session does it.
+    #[tactic(auto, unfolding(crate::specs::Line::connect_line))]
     pub fn connect(self, t: u64, password: &[u8]) -> LineConnected
         ensures { result ≡ connect_line self t password.now }
     {
@@ -302,6 +311,7 @@ impl Line {
     }
 
     // The line is gone at time t.
+    #[tactic(auto, unfolding(crate::specs::Line::drop_line))]
     pub fn drop(self, t: u64) -> Line
         ensures { result ≡ drop_line self t }
     {
@@ -321,6 +331,7 @@ impl Line {
     }
 
     // One step at time t on the message at the front of s.
+    #[tactic(auto, unfolding(crate::specs::Line::step_line))]
     pub fn step(self, t: u64, s: &[u8]) -> LineStepped
         ensures { result ≡ step_line self t s.now }
     {
@@ -328,14 +339,14 @@ impl Line {
     }
 
     // One step at time t on the message at the front of s, of which the reader has given this.
-    pub fn step_by(self, t: u64, s: &[u8], reading: Reading) -> LineStepped
+    pub fn step_by(self, t: u64, s: &[u8], reading: Result<Reading, Refusal>) -> LineStepped
         ensures { result ≡ stepped_line self t (step_by self.session s.now reading) }
     {
         self.stepped(t, self.session.step_by(s, reading))
     }
 
     // What was read at the front of s is taken at time t, where it is business in its turn. A step would do no more.
-    pub fn take_due(self, t: u64, s: &[u8], reading: Reading) -> LineDue
+    pub fn take_due(self, t: u64, s: &[u8], reading: Result<Reading, Refusal>) -> LineDue
         ensures { result ≡ take_due_line self t s.now reading }
     {
         let was = self.session;
@@ -352,6 +363,7 @@ impl Line {
     }
 
     // The messages of s at time t, back to back, each stepped on in turn.
+    #[tactic(auto, unfolding(crate::specs::Line::steps_line))]
     pub fn steps(self, t: u64, s: &[u8], rows: &mut [u32], sends: &mut [u32]) -> LineDone
         ensures { LaysLine self t s.now rows.old sends.old result rows.new sends.new }
     {
