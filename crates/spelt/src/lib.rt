@@ -122,14 +122,7 @@ pub fn put_amount(d: &mut [u8], z: i64) -> Result<usize, NotLaid>
 pub fn line_length(s: &[u8]) -> usize
     ensures { (result ≡ line_length s.now) × (result ≤ length s.now) }
 {
-    let mut i = 0;
-    while i < s.len() {
-        if s[i] == b'\n' {
-            return i;
-        }
-        i += 1;
-    }
-    i
+    s.iter().position(|b| *b == b'\n').unwrap_or(s.len())
 }
 
 fn hex_digit(n: u8) -> u8
