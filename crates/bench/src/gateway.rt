@@ -7,7 +7,7 @@ use crate::{
 };
 use message::frame::{Header, body_in, comp_id_in, front_length, header_in, map_in};
 use message::read::{Reading, read};
-use plan::{A_PAIR, Planned};
+use plan::A_PAIR;
 use std::io::{Read, Stdin};
 use tables::table::{BUSINESS_MESSAGE_REJECT, EXECUTION_REPORT};
 use wire::laying::put_bytes;
@@ -192,14 +192,12 @@ fn complain_of_sent(out: &mut Out, sent: Sent) {
 
 fn send_plan(out: &mut Out, list: &[u8], marks: &[u8], s: u32, e: u32) {
     let mut pairs = [0u32; 65536];
-    let planned = planned(marks, s, e, &mut pairs);
-    match planned {
-        Planned::Wrote(n) => {
+    match planned(marks, s, e, &mut pairs) {
+        Ok(n) => {
             let sent = send_parts(out, list, &pairs, n);
             complain_of_sent(out, sent);
         }
-        Planned::BadRequest => complain_with(out, b"refused ", planned.refusal()),
-        Planned::NoRoom(_) => complain_with(out, b"refused ", planned.refusal()),
+        Err(refused) => complain_with(out, b"refused ", refused.number()),
     }
 }
 

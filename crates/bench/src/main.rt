@@ -20,11 +20,10 @@
 
 mod gateway;
 
-ghost use Rattle.std.specs.Prelude.{◌≡◌, ℕ, ◌*◌, ◌≤◌, length};
-ghost use Rattle.plan.specs.declared.Planned.TheVariants.{Wrote};
+ghost use Rattle.std.specs.Prelude.{◌≡◌, ℕ, ◌*◌, ◌≤◌, length, Ok};
 
 use crate::gateway::send;
-use plan::{A_PAIR, Planned, join, plan};
+use plan::{A_PAIR, NotPlanned, join, plan};
 use std::io;
 use std::io::{Read, Stderr, Stdin, Stdout};
 
@@ -304,39 +303,37 @@ fn say_parts(out: &mut Out, pairs: &[u32], count: usize)
     }
 }
 
-fn say_refused(out: &mut Out, planned: Planned) {
+fn say_refused(out: &mut Out, refused: NotPlanned) {
     say(out, b"refused ");
-    say_number(out, planned.refusal() as u64);
+    say_number(out, refused.number() as u64);
 }
 
 // What was written, or why nothing was.
-fn say_planned(out: &mut Out, planned: Planned, pairs: &[u32])
-    requires { (n : ℕ) → planned ≡ Wrote n → 2 * n ≤ length pairs.now }
+fn say_planned(out: &mut Out, planned: Result<usize, NotPlanned>, pairs: &[u32])
+    requires { (n : ℕ) → planned ≡ Ok n → 2 * n ≤ length pairs.now }
 {
     match planned {
-        Planned::Wrote(n) => say_parts(out, pairs, n),
-        Planned::BadRequest => {
-            say_refused(out, planned);
-            say(out, b"\n");
-        }
-        Planned::NoRoom(n) => {
-            say_refused(out, planned);
-            say(out, b" pairs=");
-            say_number(out, n as u64);
+        Ok(n) => say_parts(out, pairs, n),
+        Err(refused) => {
+            say_refused(out, refused);
+            if let NotPlanned::NoRoom(needed) = refused {
+                say(out, b" pairs=");
+                say_number(out, needed as u64);
+            }
             say(out, b"\n");
         }
     }
 }
 
 // The plan, whose pairs lie within the buffer.
-fn planned(list: &[u8], s: u32, e: u32, pairs: &mut [u32]) -> Planned
-    ensures { (n : ℕ) → result ≡ Wrote n → 2 * n ≤ length pairs.new }
+fn planned(list: &[u8], s: u32, e: u32, pairs: &mut [u32]) -> Result<usize, NotPlanned>
+    ensures { (n : ℕ) → result ≡ Ok n → 2 * n ≤ length pairs.new }
 {
     plan(list, s, e, pairs)
 }
 
-fn say_plan(out: &mut Out, list: &[u8], s: u32, e: u32, pairs: &mut [u32]) -> Planned
-    ensures { (n : ℕ) → result ≡ Wrote n → 2 * n ≤ length pairs.new }
+fn say_plan(out: &mut Out, list: &[u8], s: u32, e: u32, pairs: &mut [u32]) -> Result<usize, NotPlanned>
+    ensures { (n : ℕ) → result ≡ Ok n → 2 * n ≤ length pairs.new }
 {
     let planned = planned(list, s, e, pairs);
     say_planned(out, planned, pairs);
@@ -372,14 +369,8 @@ fn say_split(out: &mut Out, list: &[u8], s: u32, m: u32, e: u32) {
     let first = say_plan(out, list, s, m, &mut one);
     say_which(out, b"plan", m + 1, e);
     let second = say_plan(out, list, m + 1, e, &mut other);
-    match first {
-        Planned::Wrote(a) => match second {
-            Planned::Wrote(b) => say_joined(out, &one[..A_PAIR * a], &other[..A_PAIR * b], s, e),
-            Planned::BadRequest => {}
-            Planned::NoRoom(_) => {}
-        },
-        Planned::BadRequest => {}
-        Planned::NoRoom(_) => {}
+    if let (Ok(a), Ok(b)) = (first, second) {
+        say_joined(out, &one[..A_PAIR * a], &other[..A_PAIR * b], s, e);
     }
 }
 

@@ -1,6 +1,7 @@
 -- Turns and the course of a call. A turn ends the call before its step or does the step; where the call goes on after it, it has used the bytes
 -- of a whole message, and the session is not Down. So the course of a call is its first turn and then the course of what that leaves. Besides: how
 -- many numbers rows and messages to send take, and the turn of a business message that is in its turn.
+use Rattle.std.specs.Prelude.{Option, Some, None}
 use Prim.Native.Nat.{ℕ, zero, suc, ◌+◌, ◌-◌, ◌*◌, ◌≤◌}
 use mathlib.Core.Path.{◌≡◌, refl, sym, ap, ◌∙◌}
 use mathlib.Core.Bool.{Bool, true, false, cond, ◌&&◌, true≢false}
@@ -23,8 +24,6 @@ use Rattle.session.specs.declared.state.State.{State}
 use Rattle.session.specs.declared.state.State.TheVariants.{Down, Waiting, Live}
 use Rattle.calls.specs.declared.Ended.{Ended}
 use Rattle.calls.specs.declared.Ended.TheVariants as ended
-use Rattle.calls.specs.declared.Next.{Next}
-use Rattle.calls.specs.declared.Next.TheVariants.{On, Ends}
 use Rattle.session.specs.Day.{step}
 use Rattle.session.specs.State.{code_number, code_besides, last, sort_number, told, take}
 use Rattle.calls.specs.Steps.{
@@ -72,19 +71,19 @@ length-sends [] = refl
 length-sends (x ∷ xs) = omega (arith, length-sends xs)
 
 -- after a step that is done the call goes on exactly where the session is not Down
-next_up : (p : State) (k : Code) → next_of p k ≡ On → p ≡ Down → ⊥
+next_up : (p : State) (k : Code) → next_of p k ≡ None → p ≡ Down → ⊥
 unfolding next_of
 next_up Down k e d = let z : ◌≡◌ {A = ℕ} 0 1 = cc in omega arith
 next_up Waiting k e d = let z : ◌≡◌ {A = ℕ} 0 1 = cc in omega arith
 next_up Live k e d = let z : ◌≡◌ {A = ℕ} 0 1 = cc in omega arith
 
-pub up_next : (p : State) (k : Code) → (p ≡ Down → ⊥) → next_of p k ≡ On
+pub up_next : (p : State) (k : Code) → (p ≡ Down → ⊥) → next_of p k ≡ None
 unfolding next_of
 up_next Down k u = absurd (u refl)
 up_next Waiting k u = refl
 up_next Live k u = refl
 
-ends_on : {A : Type 0} {why : Ended} → Ends why ≡ On → A
+ends_on : {A : Type 0} {why : Ended} → Some why ≡ None → A
 ends_on e = let z : ◌≡◌ {A = ℕ} 0 1 = cc in absurd (omega arith)
 
 -- the numbers that a row takes are as many at every place and for every size
@@ -122,9 +121,9 @@ fits_not at r q a n = go (fits at r q a) refl
     go false e = refl
 
 -- a turn ends the call before its step, at 1 or without a free slot, or does the step
-pub data Turning (at r q : ℕ) (s : Session) (left : List ℕ) : Did Next → Type 0 where
-  short : code_number (step s left).answer.code ≡ 1 → Turning at r q s left (did s (Ends (ended.Short (code_besides (step s left).answer.code))))
-  full : (code_number (step s left).answer.code ≡ 1 → ⊥) → (Fits at r q (step s left).answer → ⊥) → Turning at r q s left (did s (Ends ended.NoSlot))
+pub data Turning (at r q : ℕ) (s : Session) (left : List ℕ) : Did (Option Ended) → Type 0 where
+  short : code_number (step s left).answer.code ≡ 1 → Turning at r q s left (did s (Some (ended.Short (code_besides (step s left).answer.code))))
+  full : (code_number (step s left).answer.code ≡ 1 → ⊥) → (Fits at r q (step s left).answer → ⊥) → Turning at r q s left (did s (Some ended.NoSlot))
   done : (code_number (step s left).answer.code ≡ 1 → ⊥) → Fits at r q (step s left).answer → Turning at r q s left (step_done at left (step s left))
 
 module _ (at r q : ℕ) (s : Session) (left : List ℕ) where
@@ -139,11 +138,11 @@ module _ (at r q : ℕ) (s : Session) (left : List ℕ) where
       (λ u. full (eqb-false (code_number a.code) 1 t) (λ f. true≢false (sym (fits_by at r q a f) ∙ u))))
 
   -- and the other way round
-  pub short-turn : code_number (step s left).answer.code ≡ 1 → turn_of at r q s left ≡ did s (Ends (ended.Short (code_besides (step s left).answer.code)))
+  pub short-turn : code_number (step s left).answer.code ≡ 1 → turn_of at r q s left ≡ did s (Some (ended.Short (code_besides (step s left).answer.code)))
   unfolding turn_of turn_by
   short-turn c = rw (eq-eqb (code_number (step s left).answer.code) 1 c)
 
-  pub full-turn : (code_number (step s left).answer.code ≡ 1 → ⊥) → (Fits at r q (step s left).answer → ⊥) → turn_of at r q s left ≡ did s (Ends ended.NoSlot)
+  pub full-turn : (code_number (step s left).answer.code ≡ 1 → ⊥) → (Fits at r q (step s left).answer → ⊥) → turn_of at r q s left ≡ did s (Some ended.NoSlot)
   unfolding turn_of turn_by
   full-turn l n = rw (ne_eqb (code_number (step s left).answer.code) 1 l, fits_not at r q (step s left).answer n)
 
@@ -152,21 +151,21 @@ module _ (at r q : ℕ) (s : Session) (left : List ℕ) where
   done-turn l f = rw (ne_eqb (code_number (step s left).answer.code) 1 l, fits_by at r q (step s left).answer f)
 
   -- a turn after which the call goes on has used the bytes of a message
-  pub turn-uses : (s.state ≡ Down → ⊥) → (turn_of at r q s left).after ≡ On → 58 ≤ (turn_of at r q s left).used
+  pub turn-uses : (s.state ≡ Down → ⊥) → (turn_of at r q s left).after ≡ None → 58 ≤ (turn_of at r q s left).used
   unfolding step_done
   turn-uses up = go (turn_of at r q s left) turning
     where
-      go : (t : Did Next) → Turning at r q s left t → t.after ≡ On → 58 ≤ t.used
+      go : (t : Did (Option Ended)) → Turning at r q s left t → t.after ≡ None → 58 ≤ t.used
       go t (short h) e = ends_on e
       go t (full h f) e = ends_on e
       go t (done h f) e = step-uses s left up h (next_up (step s left).session.state (step s left).answer.code e)
 
   -- and it has not left the session Down
-  pub turn_up : (s.state ≡ Down → ⊥) → (turn_of at r q s left).after ≡ On → (turn_of at r q s left).session.state ≡ Down → ⊥
+  pub turn_up : (s.state ≡ Down → ⊥) → (turn_of at r q s left).after ≡ None → (turn_of at r q s left).session.state ≡ Down → ⊥
   unfolding step_done
   turn_up up = go (turn_of at r q s left) turning
     where
-      go : (t : Did Next) → Turning at r q s left t → t.after ≡ On → t.session.state ≡ Down → ⊥
+      go : (t : Did (Option Ended)) → Turning at r q s left t → t.after ≡ None → t.session.state ≡ Down → ⊥
       go t (short h) e = ends_on e
       go t (full h f) e = ends_on e
       go t (done h f) e = next_up (step s left).session.state (step s left).answer.code e
@@ -176,7 +175,7 @@ module _ (at r q : ℕ) (s : Session) (left : List ℕ) where
   unfolding step_done
   turn-within = go (turn_of at r q s left) turning
     where
-      go : (t : Did Next) → Turning at r q s left t → t.used ≤ length left
+      go : (t : Did (Option Ended)) → Turning at r q s left t → t.used ≤ length left
       go t (short h) = omega arith
       go t (full h f) = omega arith
       go t (done h f) = front-within left
@@ -186,7 +185,7 @@ module _ (at r q : ℕ) (s : Session) (left : List ℕ) where
   unfolding step_done row_numbers
   turn-rows = go (turn_of at r q s left) turning
     where
-      go : (t : Did Next) → Turning at r q s left t → length (row_numbers t.rows) ≤ r
+      go : (t : Did (Option Ended)) → Turning at r q s left t → length (row_numbers t.rows) ≤ r
       go t (short h) = omega arith
       go t (full h f) = omega arith
       go t (done h f) = omega (arith, row_room at (front_length left) at 0 (step s left).answer.row, f.rows)
@@ -195,14 +194,14 @@ module _ (at r q : ℕ) (s : Session) (left : List ℕ) where
   unfolding step_done send_numbers
   turn-sends = go (turn_of at r q s left) turning
     where
-      go : (t : Did Next) → Turning at r q s left t → length (send_numbers t.sends) ≤ q
+      go : (t : Did (Option Ended)) → Turning at r q s left t → length (send_numbers t.sends) ≤ q
       go t (short h) = omega arith
       go t (full h f) = omega arith
       go t (done h f) = f.sends
 
 -- what follows a turn counts only where the call goes on
-follow-same : (f g : ℕ → ℕ → ℕ → Session → List ℕ → Did Ended) (at r q : ℕ) (left : List ℕ) (t : Did Next)
-    → (t.after ≡ On
+follow-same : (f g : ℕ → ℕ → ℕ → Session → List ℕ → Did Ended) (at r q : ℕ) (left : List ℕ) (t : Did (Option Ended))
+    → (t.after ≡ None
     → f (at + t.used) (r - length (row_numbers t.rows)) (q - length (send_numbers t.sends)) t.session (drop t.used left)
     ≡ g (at + t.used) (r - length (row_numbers t.rows)) (q - length (send_numbers t.sends)) t.session (drop t.used left))
     → follow f at r q left t ≡ follow g at r q left t
@@ -212,9 +211,9 @@ follow-same f g at r q left t same = go t.after same
     args : (ℕ → ℕ → ℕ → Session → List ℕ → Did Ended) → Did Ended
     args h = h (at + t.used) (r - length (row_numbers t.rows)) (q - length (send_numbers t.sends)) t.session (drop t.used left)
 
-    go : (n : Next) → (n ≡ On → args f ≡ args g) → and_then t n (args f) ≡ and_then t n (args g)
-    go On e = ap (and_then t On) (e refl)
-    go (Ends why) e = refl
+    go : (n : Option Ended) → (n ≡ None → args f ≡ args g) → and_then t n (args f) ≡ and_then t n (args g)
+    go None e = ap (and_then t None) (e refl)
+    go (Some why) e = refl
 
 -- where no byte is left, a turn ends the call: 3 are needed
 none_left : (k at r q : ℕ) (s : Session) (left : List ℕ) → (s.state ≡ Down → ⊥) → length left ≤ 0 → turns k at r q s left ≡ did s (ended.Short 3)
@@ -232,7 +231,7 @@ unfolding turns
 turns-enough zero j at r q s left up l m = sym (none_left j at r q s left up l)
 turns-enough (suc k) zero at r q s left up l m = none_left (suc k) at r q s left up m
 turns-enough (suc k) (suc j) at r q s left up l m =
-    let t : Did Next = turn_of at r q s left in
+    let t : Did (Option Ended) = turn_of at r q s left in
     follow-same (turns k) (turns j) at r q left t
     (λ e. let u = turn-uses at r q s left up e in
     let d = length-drop t.used left in
@@ -243,7 +242,7 @@ pub course-turn : (at r q : ℕ) (s : Session) (left : List ℕ) → (s.state �
     → course at r q s left ≡ follow course at r q left (turn_of at r q s left)
 unfolding course turns
 course-turn at r q s left up =
-    let t : Did Next = turn_of at r q s left in
+    let t : Did (Option Ended) = turn_of at r q s left in
     turns-enough (length left) (suc (length left)) at r q s left up (omega arith) (omega arith)
     ∙ follow-same (turns (length left)) course at r q left t
     (λ e. let d = length-drop t.used left in
@@ -258,7 +257,7 @@ pub quick-turn : (at r q : ℕ) (s : Session) (left : List ℕ) → step s left 
       rows = record { row = row.Business s.expected; at = at; size = front_length left } ∷ [];
       sends = [];
       heard = true;
-      after = On;
+      after = None;
     }
 unfolding turn_of turn_by fits step_done is_heard row_at sends_of send_in row_numbers send_numbers code_number sort_number told next_of take
 quick-turn at r q s left e h m =

@@ -1,4 +1,5 @@
 -- Two calls are one. Where a call did not end Down, a call on what it left and more bytes behind that goes on as one call on all of them would have.
+use Rattle.std.specs.Prelude.{Option}
 use Prim.Native.Nat.{ℕ, ◌+◌, ◌-◌, ◌≤◌}
 use mathlib.Core.Path.{◌≡◌, refl, sym, ap, ap₂, subst, ◌∙◌}
 use mathlib.Core.Bool.{or_assoc}
@@ -15,7 +16,6 @@ use Rattle.session.specs.declared.state.State.TheVariants as state
 use Rattle.session.specs.declared.state.Stepped.{Stepped}
 use Rattle.calls.specs.declared.Ended.{Ended}
 use Rattle.calls.specs.declared.Ended.TheVariants.{Down, NoSlot}
-use Rattle.calls.specs.declared.Next.{Next}
 use Rattle.session.specs.State.{code_number}
 use Rattle.session.specs.Day.{step}
 use Rattle.calls.specs.Steps.{Placed, row_at, sends_of, row_numbers, send_numbers, Did, did, joined, step_done, course, further}
@@ -78,7 +78,7 @@ module _ (at r q : ℕ) (s : Session) (b c : List ℕ) where
       let l = ap (λ (x : Stepped). x.session) e in
       let m : step_done at b (step s b) ≡ step_done at (b ++ c) (step s (b ++ c)) = ap (step_done at b) e ∙ rw f in
       let v : ((step s (b ++ c)).session.state ≡ state.Down → ⊥) = λ h. u (ap (λ (x : Stepped). x.session.state) e ∙ h) in
-      subst (λ (t : Did Next). Runs at r q s (b ++ c) (joined t y)) (sym m)
+      subst (λ (t : Did (Option Ended)). Runs at r q s (b ++ c) (joined t y)) (sym m)
       (on (does-on-all d) v (runs_as (ap (λ (n : ℕ). at + n) f) j k l (i ∙ ap (λ (n : ℕ). drop n (b ++ c)) f) z))
 
 -- a call on the first bytes, and one on what it left and all that is behind

@@ -6,3 +6,4 @@ pub mod SingleLaws
 pub mod RoomLaws
 pub mod JoinLaws
 pub mod CallLaws
+pub mod CodeLaws

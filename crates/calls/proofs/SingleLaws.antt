@@ -1,6 +1,7 @@
 -- A call of many messages is single steps in turn. `Runs` says step by step what a call does; what it says is the definition's course, and laws of a
 -- call go by its steps. So a call does what so many single steps do; it leaves the session Down exactly where it ends so; and it neither uses more
 -- bytes than there are nor takes more numbers than are free.
+use Rattle.std.specs.Prelude.{Option}
 use Prim.Native.Nat.{ℕ, zero, suc, ◌+◌, ◌-◌, ◌≤◌}
 use mathlib.Core.Path.{◌≡◌, refl, sym, ap, subst, ◌∙◌}
 use mathlib.Core.Bool.{or-false}
@@ -16,7 +17,6 @@ use Rattle.session.specs.declared.state.State.{State}
 use Rattle.session.specs.declared.state.State.TheVariants as state
 use Rattle.calls.specs.declared.Ended.{Ended}
 use Rattle.calls.specs.declared.Ended.TheVariants.{Short, Down, NoSlot}
-use Rattle.calls.specs.declared.Next.{Next}
 use Rattle.session.specs.State.{code_number, code_besides}
 use Rattle.session.specs.Day.{step}
 use Rattle.calls.specs.Steps.{
@@ -115,7 +115,7 @@ module _ (at r q : ℕ) (s : Session) (left : List ℕ) (up : s.state ≡ state.
       next d state.Waiting e = goes d (λ f. let z : ◌≡◌ {A = ℕ} 0 1 = cc in omega arith)
       next d state.Live e = goes d (λ f. let z : ◌≡◌ {A = ℕ} 0 1 = cc in omega arith)
 
-      go : (t : Did Next) → Turning at r q s left t → Runs at r q s left (follow course at r q left t)
+      go : (t : Did (Option Ended)) → Turning at r q s left t → Runs at r q s left (follow course at r q left t)
       go t (too_short c) = short up c
       go t (no_slot l f) = full up l f
       go t (done l f) = next (record { up = up; long = l; room = f }) (step s left).session.state refl
@@ -145,7 +145,7 @@ runs-course {at = at} {r = r} {q = q} {s = s} {left = left} (down d e) =
 runs-course {at = at} {r = r} {q = q} {s = s} {left = left} (on d u c) =
     course-turn at r q s left d.up
     ∙ ap (follow course at r q left) (done-turn at r q s left d.long d.room)
-    ∙ ap (λ (n : Next). and_then (step_done at left (step s left)) n (rest at r q s left))
+    ∙ ap (λ (n : Option Ended). and_then (step_done at left (step s left)) n (rest at r q s left))
     (up_next (step s left).session.state (step s left).answer.code u)
     ∙ ap (joined (step_done at left (step s left))) (runs-course c)
 

@@ -1,56 +1,77 @@
 -- The slots of the lent lists: how many numbers a step's row and its messages to send take there, and numbers laid one by one.
-use Prim.Native.Nat.{ℕ, ◌+◌, ◌-◌, ◌≤◌, ◌<◌}
-use mathlib.Core.Path.{◌≡◌, refl, sym, ap, ap₂, ◌∙◌}
+use Prim.Native.Nat.{ℕ, ◌+◌, ◌-◌, ◌≤◌}
+use mathlib.Core.Path.{◌≡◌, refl, sym, ap, ◌∙◌}
 use mathlib.Core.List.{List, [], ◌∷◌, ◌++◌}
 use native.Mathlib.Omega.{arith}
-use lib.ListN.{length, take, drop, set, length-append, length-drop}
-use borrow.Author.Tests.{eq-eqb, ne_eqb}
+use lib.ListN.{length, take, drop, length-append, length-drop}
 use Rattle.wire.specs.Laying.{laid}
-use Rattle.wire.proofs.BufferLaws.{laid-there, lent_from, laid-behind, Front, front-own}
+use Rattle.wire.proofs.BufferLaws.{laid-there, lent_from, laid-behind, front-own}
 use Rattle.wire.proofs.TestLaws.{rest_of}
 use Rattle.session.specs.declared.state.Answer.{Answer}
+use Rattle.session.specs.declared.state.Figures.{Figures}
 use Rattle.session.specs.declared.state.Row.{Row}
+use Rattle.session.specs.declared.state.Row.TheVariants as row
 use Rattle.session.specs.declared.state.Send.{Send}
-use Rattle.session.specs.State.{sort_number, told}
+use Rattle.session.specs.declared.state.Send.TheVariants as send
+use Rattle.session.specs.State.{sort_number, first_of, last_of, told}
 use Rattle.calls.specs.Steps.{Placed, row_at, send_in, sends_of, row_numbers, send_numbers}
 use Rattle.calls.proofs.CourseLaws.{numbers-sends}
 
--- a row of sort 0 is none and takes no number
-pub no_row : (at n : ℕ) (r : Row) → sort_number r ≡ 0 → row_numbers (row_at at n r) ≡ []
-unfolding row_at row_numbers
-no_row at n r h = rw (eq-eqb (sort_number r) 0 h)
+-- no row takes no number
+pub no_row : (at n : ℕ) (r : Row) → r ≡ row.Nothing → row_numbers (row_at at n r) ≡ []
+unfolding row_at row_numbers sort_number
+no_row at n r h = rw h
 
--- every other row has a slot of five numbers
-one-row : (at n : ℕ) (r : Row) → (sort_number r ≡ 0 → ⊥) → row_at at n r ≡ record { row = r; at = at; size = n } ∷ []
-unfolding row_at
-one-row at n r h = rw (ne_eqb (sort_number r) 0 h)
+-- every row has a slot of five numbers
+one-row : (at n : ℕ) (r : Row) → (r ≡ row.Nothing → ⊥) → row_at at n r ≡ record { row = r; at = at; size = n } ∷ []
+unfolding row_at sort_number
+one-row at n row.Nothing h = absurd (h refl)
+one-row at n (row.Business a) h = refl
+one-row at n (row.Session a) h = refl
+one-row at n (row.Filled a b) h = refl
+one-row at n (row.Reset a b) h = refl
 
-pub row-size : (at n : ℕ) (r : Row) → (sort_number r ≡ 0 → ⊥) → length (row_numbers (row_at at n r)) ≡ 5
+pub row-size : (at n : ℕ) (r : Row) → (r ≡ row.Nothing → ⊥) → length (row_numbers (row_at at n r)) ≡ 5
 unfolding row_numbers
 row-size at n r h = rw (one-row at n r h)
 
--- once its numbers are laid over the front of d, which is x afterwards, its slot is laid
-pub row_laid : (at n : ℕ) (r : Row) (d x : List ℕ) → (sort_number r ≡ 0 → ⊥)
-    → x ≡ laid (row_numbers (record { row = r; at = at; size = n } ∷ [])) d
-    → (5 ≡ length (row_numbers (row_at at n r))) × (x ≡ laid (row_numbers (row_at at n r)) d)
-row_laid at n r d x h q = (sym (row-size at n r h), q ∙ ap (λ (w : List Placed). laid (row_numbers w) d) (sym (one-row at n r h)))
+-- once its numbers are laid over the front of d its slot is laid
+pub row_laid : (at n : ℕ) (r : Row) (s f l : ℕ) (d x : List ℕ) → (r ≡ row.Nothing → ⊥) → length (row_numbers (row_at at n r)) ≤ length d
+    → s ≡ sort_number r → f ≡ first_of r → l ≡ last_of r → x ≡ s ∷ f ∷ l ∷ at ∷ n ∷ []
+    → (5 ≡ length (row_numbers (row_at at n r))) × (x ++ drop 5 d ≡ laid (row_numbers (row_at at n r)) d)
+unfolding row_numbers
+row_laid at n r s f l d x h m p q t e =
+    let w = laid-there (row_numbers (record { row = r; at = at; size = n } ∷ [])) d (omega (arith, row-size at n r h)) in (
+      sym (row-size at n r h),
+      rw (e, p, q, t) (sym w) ∙ ap (λ (v : List Placed). laid (row_numbers v) d) (sym (one-row at n r h)),
+    )
 
 -- the same holds of a message to send, whose slot has four numbers
-pub no-send : (x : Send) → (told x).kind ≡ 0 → send_numbers (send_in x) ≡ []
-unfolding send_in send_numbers
-no-send x h = rw (eq-eqb (told x).kind 0 h)
+pub no-send : (x : Send) → x ≡ send.Nothing → send_numbers (send_in x) ≡ []
+unfolding send_in send_numbers told
+no-send x h = rw h
 
-one-send : (x : Send) → ((told x).kind ≡ 0 → ⊥) → send_in x ≡ x ∷ []
-unfolding send_in
-one-send x h = rw (ne_eqb (told x).kind 0 h)
+one-send : (x : Send) → (x ≡ send.Nothing → ⊥) → send_in x ≡ x ∷ []
+unfolding send_in told
+one-send send.Nothing h = absurd (h refl)
+one-send (send.Heartbeat n id) h = refl
+one-send (send.Logout n) h = refl
+one-send (send.GapFill n new) h = refl
+one-send (send.ResendRequest n start end) h = refl
 
-pub send-size : (x : Send) → ((told x).kind ≡ 0 → ⊥) → length (send_numbers (send_in x)) ≡ 4
+pub send-size : (x : Send) → (x ≡ send.Nothing → ⊥) → length (send_numbers (send_in x)) ≡ 4
 unfolding send_numbers
 send-size x h = rw (one-send x h)
 
-pub send-laid : (s : Send) (d x : List ℕ) → ((told s).kind ≡ 0 → ⊥) → x ≡ laid (send_numbers (s ∷ [])) d
-    → (4 ≡ length (send_numbers (send_in s))) × (x ≡ laid (send_numbers (send_in s)) d)
-send-laid s d x h q = (sym (send-size s h), q ∙ ap (λ (w : List Send). laid (send_numbers w) d) (sym (one-send s h)))
+pub send-laid : (s : Send) (t : Figures) (d x : List ℕ) → (s ≡ send.Nothing → ⊥) → length (send_numbers (send_in s)) ≤ length d
+    → t ≡ told s → x ≡ t.kind ∷ t.number ∷ t.first ∷ t.second ∷ []
+    → (4 ≡ length (send_numbers (send_in s))) × (x ++ drop 4 d ≡ laid (send_numbers (send_in s)) d)
+unfolding send_numbers
+send-laid s t d x h m p e =
+    let w = laid-there (send_numbers (s ∷ [])) d (omega (arith, send-size s h)) in (
+      sym (send-size s h),
+      rw (e, p) (sym w) ∙ ap (λ (v : List Send). laid (send_numbers v) d) (sym (one-send s h)),
+    )
 
 -- the numbers of an answer's messages to send are the first one's and then the second one's
 two-sends : (a : Answer) → send_numbers (sends_of a) ≡ send_numbers (send_in a.first) ++ send_numbers (send_in a.second)
@@ -85,25 +106,3 @@ module _ (a : Answer) (d : List ℕ) (h : length (send_numbers (sends_of a)) ≤
 -- where there are no numbers, their count is 0 and d stays as it was
 pub laid_none : (w d : List ℕ) → w ≡ [] → (0 ≡ length w) × (d ≡ laid w d)
 laid_none w d e = (ap length (sym e), (front-own 0 d (omega arith)).is ∙ ap (λ (z : List ℕ). laid z d) (sym e))
-
--- a number that is set behind the numbers of w stands at their end
-set-behind : (w d : List ℕ) (v : ℕ) → length w < length d
-    → set (w ++ drop (length w) d) (length w) v ≡ (w ++ (v ∷ [])) ++ drop (length (w ++ (v ∷ []))) d
-set-behind [] [] v h = absurd (omega arith)
-set-behind [] (a ∷ d) v h = refl
-set-behind (u ∷ w) [] v h = absurd (omega arith)
-set-behind (u ∷ w) (a ∷ d) v h = ap (λ (z : List ℕ). u ∷ z) (set-behind w d v (omega arith))
-
--- so one number more is laid at the front of d
-pub front-set : {w : List ℕ} {a : ℕ} {d x : List ℕ} → Front w a d x → (v : ℕ) → a < length d
-    → Front (w ++ (v ∷ [])) (a + 1) d (set x a v)
-front-set {w} {a} {d} {x} f v h =
-    let l : length (w ++ (v ∷ [])) ≡ a + 1 = length-append w (v ∷ []) ∙ ap (λ (k : ℕ). k + 1) f.size in
-    let i : length w < length d = omega (arith, f.size) in
-    let p : x ≡ w ++ drop (length w) d = f.is ∙ laid-there w d (omega arith) in
-    record {
-      size = l;
-      is =
-          ap₂ (λ (z : List ℕ) (k : ℕ). set z k v) p (sym f.size) ∙ set-behind w d v i
-          ∙ sym (laid-there (w ++ (v ∷ [])) d (omega arith));
-    }

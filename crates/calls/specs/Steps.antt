@@ -1,5 +1,5 @@
 -- Document 02, item 1: many messages in one call. The messages of a lent slice stand back to back, and each is stepped on in turn.
-use Rattle.std.specs.Prelude.{ℕ, zero, suc, ◌+◌, ◌-◌, ◌*◌, Bool, false, cond, ◌&&◌, ◌||◌, ◌≡◌, List, [], ◌∷◌, ◌++◌, map, eqb, leb, ltb, length, drop}
+use Rattle.std.specs.Prelude.{Option, Some, None, ℕ, zero, suc, ◌+◌, ◌-◌, ◌*◌, ◌^◌, ◌<◌, Bool, false, cond, ◌&&◌, ◌||◌, ◌≡◌, List, [], ◌∷◌, ◌++◌, map, eqb, leb, ltb, length, drop}
 use Rattle.wire.specs.Laying.{laid}
 use Rattle.message.specs.Frame.{type_at, front_length}
 use Rattle.message.specs.declared.refusal.Refusal.TheVariants.{NoRoom}
@@ -17,8 +17,7 @@ use Rattle.session.specs.declared.state.Stepped.{Stepped}
 use Rattle.calls.specs.declared.Done.{Done}
 use Rattle.calls.specs.declared.Ended.{Ended}
 use Rattle.calls.specs.declared.Ended.TheVariants.{Short, Down, NoSlot}
-use Rattle.calls.specs.declared.Next.{Next}
-use Rattle.calls.specs.declared.Next.TheVariants.{On, Ends}
+use Rattle.calls.specs.declared.SoFar.{SoFar}
 use Rattle.calls.specs.declared.Turned.{Turned}
 use Rattle.session.specs.Day.{step}
 use Rattle.session.specs.Held.{state_number}
@@ -85,12 +84,12 @@ joined x y = record {
 }
 
 -- after a step: Down ends the call, with the step's code
-unfoldable pub next_of : State → Code → Next
-next_of p code = cond (eqb (state_number p) (state_number state.Down)) (Ends (Down code)) On
+unfoldable pub next_of : State → Code → Option Ended
+next_of p code = cond (eqb (state_number p) (state_number state.Down)) (Some (Down code)) None
 
 -- a step that is done, on the message at place `at` and at the front of what is left of the slice: it uses the message's Length, or no bytes if it
 -- met 2 or 3
-unfoldable pub step_done : ℕ → List ℕ → Stepped → Did Next
+unfoldable pub step_done : ℕ → List ℕ → Stepped → Did (Option Ended)
 step_done at left x = record {
   session = x.session;
   used = front_length left;
@@ -104,24 +103,47 @@ step_done at left x = record {
 unfoldable pub fits : ℕ → ℕ → ℕ → Answer → Bool
 fits at r q a = leb at last && leb (length (row_numbers (row_at at 0 a.row))) r && leb (length (send_numbers (sends_of a))) q
 
--- a turn: 1 ends the call, with the bytes that it needs, and so does a row or a message to send without a free slot, each before the step
-unfoldable pub turn_by : ℕ → ℕ → ℕ → Session → List ℕ → Stepped → Did Next
-turn_by at r q s left x =
-    cond (eqb (code_number x.answer.code) short) (did s (Ends (Short (code_besides x.answer.code)))) (
-    cond (fits at r q x.answer) (step_done at left x)
-    (did s (Ends NoSlot)))
+-- the bytes that are needed, where a step answered 1
+unfoldable pub short_of : Code → Option ℕ
+short_of k = cond (eqb (code_number k) short) (Some (code_besides k)) None
 
-unfoldable pub turn_of : ℕ → ℕ → ℕ → Session → List ℕ → Did Next
+-- a turn: 1 ends the call, with the bytes that it needs, and so does a row or a message to send without a free slot, each before the step
+unfoldable pub turn_by : ℕ → ℕ → ℕ → Session → List ℕ → Stepped → Did (Option Ended)
+turn_by at r q s left x =
+    cond (eqb (code_number x.answer.code) short) (did s (Some (Short (code_besides x.answer.code)))) (
+    cond (fits at r q x.answer) (step_done at left x)
+    (did s (Some NoSlot)))
+
+unfoldable pub turn_of : ℕ → ℕ → ℕ → Session → List ℕ → Did (Option Ended)
 turn_of at r q s left = turn_by at r q s left (step s left)
 
--- a turn, with the numbers that it lays into each list counted
-abbrev pub turned_by : Did Next → Turned
+-- nothing yet, with the numbers that are laid into each list counted
+abbrev pub nothing : Session → SoFar
+nothing s = record { session = s; used = 0; rows = 0; sends = 0; heard = false }
+
+-- these, and then those; each sum has 64 bits
+abbrev pub added : SoFar → SoFar → SoFar
+added x y = record {
+  session = y.session;
+  used = x.used + y.used;
+  rows = x.rows + y.rows;
+  sends = x.sends + y.sends;
+  heard = x.heard || y.heard;
+}
+
+abbrev pub FitsBoth : SoFar → SoFar → Type 0
+FitsBoth x y = (x.used + y.used < 2 ^ 64) × (x.rows + y.rows < 2 ^ 64) × (x.sends + y.sends < 2 ^ 64)
+
+-- a turn, so counted
+abbrev pub turned_by : Did (Option Ended) → Turned
 turned_by t = record {
-  session = t.session;
-  used = t.used;
-  rows = length (row_numbers t.rows);
-  sends = length (send_numbers t.sends);
-  heard = t.heard;
+  did = record {
+    session = t.session;
+    used = t.used;
+    rows = length (row_numbers t.rows);
+    sends = length (send_numbers t.sends);
+    heard = t.heard;
+  };
   next = t.after;
 }
 
@@ -133,12 +155,12 @@ LaysTurn at s left d e r d' e' =
     × (e' ≡ laid (send_numbers (turn_of at (length d) (length e) s left).sends) e)
 
 -- a turn, and if the call goes on the turns after it
-unfoldable pub and_then : Did Next → Next → Did Ended → Did Ended
-and_then t On others = joined t others
-and_then t (Ends why) others = record { session = t.session; used = t.used; rows = t.rows; sends = t.sends; heard = t.heard; after = why }
+unfoldable pub and_then : Did (Option Ended) → Option Ended → Did Ended → Did Ended
+and_then t None others = joined t others
+and_then t (Some why) others = record { session = t.session; used = t.used; rows = t.rows; sends = t.sends; heard = t.heard; after = why }
 
 -- those have what the turn leaves: of the slice, of the lists, and the session
-unfoldable pub follow : (ℕ → ℕ → ℕ → Session → List ℕ → Did Ended) → ℕ → ℕ → ℕ → List ℕ → Did Next → Did Ended
+unfoldable pub follow : (ℕ → ℕ → ℕ → Session → List ℕ → Did Ended) → ℕ → ℕ → ℕ → List ℕ → Did (Option Ended) → Did Ended
 follow others at r q left t =
     and_then t t.after
     (others (at + t.used) (r - length (row_numbers t.rows)) (q - length (send_numbers t.sends)) t.session (drop t.used left))

@@ -2,22 +2,20 @@
 // turn. Rows and messages to send are laid as numbers into two lent lists.
 #![tactic(auto)]
 
-ghost use Rattle.std.specs.Prelude.{◌≡◌, [], ◌∷◌, ℕ, ◌+◌, ◌≤◌, ◌<◌, length};
+ghost use Rattle.std.specs.Prelude.{◌≡◌, ℕ, ◌/◌, ◌≤◌, length};
 ghost use Rattle.wire.specs.Laying.{laid};
 ghost use Rattle.wire.specs.Text.{longest};
 ghost use Rattle.message.specs.Frame.{front_length};
 ghost use Rattle.message.specs.Read.{read_of};
 ghost use Rattle.session.specs.declared.state.State.TheVariants as state;
 ghost use Rattle.session.specs.State.{last};
-ghost use Rattle.calls.specs.declared.Next.TheVariants.{Ends};
-ghost use Rattle.calls.specs.Steps.{a_row, a_send, row_at, send_in, sends_of, row_numbers, send_numbers, is_heard, did, fits, next_of, turned_by, has_room, reports, LaysTurn, LaysRun, LaysSteps};
+ghost use Rattle.calls.specs.Steps.{a_row, a_send, row_at, send_in, sends_of, row_numbers, send_numbers, is_heard, short_of, fits, next_of, nothing, FitsBoth, added, has_room, reports, LaysTurn, LaysRun, LaysSteps};
 
 use message::frame::front_length;
 use message::read::{Reading, read};
-use message::refusal::{BAD_SUM, Refusal, SHORT};
+use message::refusal::Refusal;
 use session::state::{
-    Answer, Code, Halt, LAST, ROW_NONE, Row, SEND_NONE, Send, Session, State, first_of, last_of,
-    sort_number, told,
+    Answer, Code, Halt, LAST, Row, Send, Session, State, first_of, last_of, sort_number, told,
 };
 
 // A row takes five numbers: its sort, its first and last number, where in the slice its message begins, and how long that is.
@@ -51,42 +49,79 @@ pub struct Done {
     pub ended: Ended,
 }
 
-// After a turn.
+// What some turns did: the session after them, the bytes used, how many numbers were laid into each list, and whether a message
+// was heard.
 #[derive(Clone, Copy)]
-enum Next {
-    On,
-    Ends(Ended),
-}
-
-// What a turn adds: the bytes used, how many numbers it laid into each list, and whether it heard a message.
-#[derive(Clone, Copy)]
-struct Turned {
+struct SoFar {
     session: Session,
     used: usize,
     rows: usize,
     sends: usize,
     heard: bool,
-    next: Next,
+}
+
+// What one turn did, and why it ended the call, if it did.
+#[derive(Clone, Copy)]
+struct Turned {
+    did: SoFar,
+    next: Option<Ended>,
+}
+
+impl SoFar {
+    // Nothing yet.
+    fn start(session: Session) -> SoFar
+        ensures { result ≡ nothing session }
+    {
+        SoFar {
+            session,
+            used: 0,
+            rows: 0,
+            sends: 0,
+            heard: false,
+        }
+    }
+
+    // And then those.
+    fn add(&mut self, more: SoFar)
+        requires { FitsBoth self.old more }
+        ensures { self.new ≡ added self.old more }
+    {
+        self.session = more.session;
+        self.used += more.used;
+        self.rows += more.rows;
+        self.sends += more.sends;
+        self.heard |= more.heard;
+    }
+
+    // The report of a call that ended so.
+    fn report(self, code: Code, ended: Ended) -> Done
+        ensures { result ≡ reports self.session code self.used (self.rows / a_row) (self.sends / a_send) self.heard ended }
+    {
+        Done {
+            session: self.session,
+            code,
+            used: self.used,
+            rows: self.rows / A_ROW,
+            sends: self.sends / A_SEND,
+            heard: self.heard,
+            ended,
+        }
+    }
 }
 
 // Whether a message that was answered so counts as heard: its checksum held, so that it is any answer but the reader's 1 to 4.
 pub fn is_heard(code: Code) -> bool
     ensures { result ≡ is_heard code }
 {
-    let k = code.number();
-    (k == 0) | (BAD_SUM < k)
-}
-
-// The numbers of a row, over the first of d.
-fn lay_row(d: &mut [u32], row: Row, at: usize, size: usize)
-    requires { (a_row ≤ length d.old) × (at ≤ last) × (size ≤ longest) }
-    ensures { d.new ≡ laid (row_numbers (record { row = row; at = at; size = size } ∷ [])) d.old }
-{
-    d[0] = sort_number(row);
-    d[1] = first_of(row);
-    d[2] = last_of(row);
-    d[3] = at as u32;
-    d[4] = size as u32;
+    match code {
+        Code::Good => true,
+        Code::Refused(refusal) => match refusal {
+            Refusal::Short(_) | Refusal::BadStart | Refusal::BadLength | Refusal::BadSum(_) =>
+                false,
+            _ => true,
+        },
+        Code::Halted(_) => true,
+    }
 }
 
 // A step's row, if it has one, at the front of d: how many numbers that are.
@@ -94,23 +129,17 @@ fn put_row(d: &mut [u32], row: Row, at: usize, size: usize) -> usize
     requires { (length (row_numbers (row_at at size row)) ≤ length d.old) × (at ≤ last) × (size ≤ longest) }
     ensures { (result ≡ length (row_numbers (row_at at size row))) × (d.new ≡ laid (row_numbers (row_at at size row)) d.old) }
 {
-    if sort_number(row) == ROW_NONE {
+    if let Row::Nothing = row {
         return 0;
     }
-    lay_row(d, row, at, size);
+    d[..A_ROW].copy_from_slice(&[
+        sort_number(row),
+        first_of(row),
+        last_of(row),
+        at as u32,
+        size as u32,
+    ]);
     A_ROW
-}
-
-// The numbers of a message to send, over the first of d.
-fn lay_send(d: &mut [u32], send: Send)
-    requires { a_send ≤ length d.old }
-    ensures { d.new ≡ laid (send_numbers (send ∷ [])) d.old }
-{
-    let t = told(send);
-    d[0] = t.kind;
-    d[1] = t.number;
-    d[2] = t.first;
-    d[3] = t.second;
 }
 
 // A message to send, if there is one, at the front of d: how many numbers that are.
@@ -118,10 +147,11 @@ fn put_send(d: &mut [u32], send: Send) -> usize
     requires { length (send_numbers (send_in send)) ≤ length d.old }
     ensures { (result ≡ length (send_numbers (send_in send))) × (d.new ≡ laid (send_numbers (send_in send)) d.old) }
 {
-    if told(send).kind == SEND_NONE {
+    if let Send::Nothing = send {
         return 0;
     }
-    lay_send(d, send);
+    let t = told(send);
+    d[..A_SEND].copy_from_slice(&[t.kind, t.number, t.first, t.second]);
     A_SEND
 }
 
@@ -139,20 +169,18 @@ fn put_sends(d: &mut [u32], answer: Answer) -> usize
 fn row_room(row: Row) -> usize
     ensures { ((at size : ℕ) → result ≡ length (row_numbers (row_at at size row))) × (result ≤ a_row) }
 {
-    if sort_number(row) == ROW_NONE {
-        0
-    } else {
-        A_ROW
+    match row {
+        Row::Nothing => 0,
+        _ => A_ROW,
     }
 }
 
 fn send_room(send: Send) -> usize
     ensures { (result ≡ length (send_numbers (send_in send))) × (result ≤ a_send) }
 {
-    if told(send).kind == SEND_NONE {
-        0
-    } else {
-        A_SEND
+    match send {
+        Send::Nothing => 0,
+        _ => A_SEND,
     }
 }
 
@@ -179,23 +207,19 @@ fn used_by(reading: Reading, s: &[u8]) -> usize
 {
     match reading {
         Reading::Good { header: _, length } => length,
-        Reading::Refused(refusal) => {
-            if refusal.number() < BAD_SUM {
-                0
-            } else {
-                front_length(s)
-            }
-        }
+        Reading::Refused(refusal) => match refusal {
+            Refusal::Short(_) | Refusal::BadStart | Refusal::BadLength => 0,
+            _ => front_length(s),
+        },
     }
 }
 
-fn next_of(state: State, code: Code) -> Next
+fn next_of(state: State, code: Code) -> Option<Ended>
     ensures { result ≡ next_of state code }
 {
     match state {
-        State::Down => Next::Ends(Ended::Down(code)),
-        State::Waiting => Next::On,
-        State::Live => Next::On,
+        State::Down => Some(Ended::Down(code)),
+        State::Waiting | State::Live => None,
     }
 }
 
@@ -209,16 +233,17 @@ fn has_room(rows: usize, sends: usize) -> bool
     2 * A_SEND <= sends
 }
 
-fn ends(session: Session, ended: Ended) -> Turned
-    ensures { result ≡ turned_by (did session (Ends ended)) }
+// The bytes that are needed, where a step answered that there are too few.
+fn short_of(code: Code) -> Option<usize>
+    ensures { result ≡ short_of code }
 {
-    Turned {
-        session,
-        used: 0,
-        rows: 0,
-        sends: 0,
-        heard: false,
-        next: Next::Ends(ended),
+    match code {
+        Code::Good => None,
+        Code::Refused(refusal) => match refusal {
+            Refusal::Short(need) => Some(need),
+            _ => None,
+        },
+        Code::Halted(_) => None,
     }
 }
 
@@ -240,95 +265,67 @@ fn turn(
     let answer = stepped.answer;
     let row = answer.row;
     let code = answer.code;
-    if code.number() == SHORT {
-        return ends(session, Ended::Short(code.besides()));
+    if let Some(need) = short_of(code) {
+        return Turned {
+            did: SoFar::start(session),
+            next: Some(Ended::Short(need)),
+        };
     }
     if !is_fitting(at, rows.len(), sends.len(), answer) {
-        return ends(session, Ended::NoSlot);
+        return Turned {
+            did: SoFar::start(session),
+            next: Some(Ended::NoSlot),
+        };
     }
     let used = used_by(reading, s);
     let laid = put_row(rows, row, at, used);
     let sent = put_sends(sends, answer);
     Turned {
-        session: after,
-        used,
-        rows: laid,
-        sends: sent,
-        heard: is_heard(code),
+        did: SoFar {
+            session: after,
+            used,
+            rows: laid,
+            sends: sent,
+            heard: is_heard(code),
+        },
         next: next_of(after.state(), code),
     }
 }
 
-fn report(
-    session: Session,
-    code: Code,
-    used: usize,
-    rows: usize,
-    sends: usize,
-    heard: bool,
-    ended: Ended,
-) -> Done
-    ensures { result ≡ reports session code used rows sends heard ended }
-{
-    Done {
-        session,
-        code,
-        used,
-        rows,
-        sends,
-        heard,
-        ended,
-    }
-}
-
 // All turns. Business in its turn, which most messages of a day are, is taken at once: the rules would do no more.
-fn run(start: Session, s: &[u8], rows: &mut [u32], sends: &mut [u32]) -> Done
-    requires { start.state ≡ state.Down → ⊥ }
-    ensures { LaysRun start s.now rows.old sends.old result rows.new sends.new }
+fn run(session: Session, s: &[u8], rows: &mut [u32], sends: &mut [u32]) -> Done
+    requires { session.state ≡ state.Down → ⊥ }
+    ensures { LaysRun session s.now rows.old sends.old result rows.new sends.new }
 {
-    let mut session = start;
-    let mut used: usize = 0;
-    let mut row_at: usize = 0;
-    let mut send_at: usize = 0;
-    let mut heard = false;
+    let mut so_far = SoFar::start(session);
     loop {
-        let rest = &s[used..];
+        let rest = &s[so_far.used..];
         let reading = read(rest);
-        let due = session.take_due(rest, reading);
+        let due = so_far.session.take_due(rest, reading);
         let size = due.length;
-        if size != 0 && used <= LAST as usize && A_ROW <= rows.len() - row_at {
-            let row = Row::Business(session.expected());
-            row_at += put_row(&mut rows[row_at..], row, used, size);
-            used += size;
-            session = due.session;
-            heard = true;
+        if size != 0 && so_far.used <= LAST as usize && A_ROW <= rows.len() - so_far.rows {
+            let row = Row::Business(so_far.session.expected());
+            let laid = put_row(&mut rows[so_far.rows..], row, so_far.used, size);
+            so_far.add(SoFar {
+                session: due.session,
+                used: size,
+                rows: laid,
+                sends: 0,
+                heard: true,
+            });
             continue;
         }
         let turned = turn(
-            session,
+            so_far.session,
             rest,
             reading,
-            used,
-            &mut rows[row_at..],
-            &mut sends[send_at..],
+            so_far.used,
+            &mut rows[so_far.rows..],
+            &mut sends[so_far.sends..],
         );
-        let next = turned.next;
-        session = turned.session;
-        used += turned.used;
-        row_at += turned.rows;
-        send_at += turned.sends;
-        heard = heard | turned.heard;
-        match next {
-            Next::On => {}
-            Next::Ends(ended) => return report(
-                session,
-                Code::Good,
-                used,
-                row_at / A_ROW,
-                send_at / A_SEND,
-                heard,
-                ended,
-            ),
+        so_far.add(turned.did);
+        if let Some(ended) = turned.next {
+            return so_far.report(Code::Good, ended);
         }
     }
 }
@@ -338,25 +335,18 @@ fn run(start: Session, s: &[u8], rows: &mut [u32], sends: &mut [u32]) -> Done
 pub fn steps(session: Session, s: &[u8], rows: &mut [u32], sends: &mut [u32]) -> Done
     ensures { LaysSteps session s.now rows.old sends.old result rows.new sends.new }
 {
-    let state = session.state();
-    match state {
-        State::Down => {
-            let down = Code::Halted(Halt::Down);
-            return report(session, down, 0, 0, 0, false, Ended::Down(down));
-        }
-        State::Waiting => {}
-        State::Live => {}
+    let start = SoFar::start(session);
+    if let State::Down = session.state() {
+        let down = Code::Halted(Halt::Down);
+        return start.report(down, Ended::Down(down));
     }
     if !has_room(rows.len(), sends.len()) {
-        return report(
-            session,
-            Code::Refused(Refusal::NoRoom(NEEDED)),
-            0,
-            1,
-            2,
-            false,
-            Ended::NoSlot,
-        );
+        let full = start.report(Code::Refused(Refusal::NoRoom(NEEDED)), Ended::NoSlot);
+        return Done {
+            rows: 1,
+            sends: 2,
+            ..full
+        };
     }
     run(session, s, rows, sends)
 }

@@ -4,16 +4,11 @@
 // at a time by tables, is the one that the reader and the writer of messages use.
 #![tactic(auto)]
 
-mod halves;
-
-ghost use Rattle.std.specs.Prelude.{◌≡◌, ◌%◌, ◌≤◌, length, take};
+ghost use Rattle.std.specs.Prelude.{◌≡◌, ◌+◌, ◌*◌, ◌<◌};
 ghost use Rattle.std.specs.Int.Bits.{bit_xor};
 ghost use Rattle.crc.specs.Crc.{crc32c};
 ghost use Rattle.rows.specs.Steps.{bit_step, steps};
 ghost use Rattle.crc.specs.Register.{byte_step, register};
-
-use crate::halves::{high_half, low_half};
-use rows::{row0, row1, row2, row3, row4, row5, row6, row7};
 
 // One bit: the register moves down a place, less the polynomial where a 1 falls out.
 fn bit_step(c: u32) -> u32
@@ -31,10 +26,8 @@ fn byte_step(c: u32, b: u8) -> u32
     ensures { result ≡ byte_step c b }
 {
     let mut x = c ^ (b as u32);
-    let mut left: u32 = 8;
-    while 0 < left {
+    for _ in 0..8_u32 {
         x = bit_step(x);
-        left -= 1;
     }
     x
 }
@@ -51,103 +44,56 @@ pub fn crc32c_plain(s: &[u8]) -> u32
     ensures { result ≡ crc32c s.now }
 {
     let mut c: u32 = 0xFFFFFFFF;
-    let mut i = 0;
-    while i < s.len() {
-        c = byte_step(c, s[i]);
-        i += 1;
+    for b in s {
+        c = byte_step(c, *b);
     }
     complement(c)
 }
 
-// Row k of the tables (crate `rows`) at the lowest byte of x: 8 * (k + 1) steps of it.
-fn entry0(x: u64) -> u32
-    ensures { result ≡ steps 8 (x % 256) }
+// Row k of the tables (crate `rows`) at a byte: 8 * (k + 1) steps of it.
+fn entry(k: usize, b: u8) -> u32
+    requires { k < 8 }
+    ensures { result ≡ steps (8 * (k + 1)) b }
 {
-    row0((x % 256) as u8 ^ 128)
+    rows::rows()[k][b as usize]
 }
 
-fn entry1(x: u64) -> u32
-    ensures { result ≡ steps 16 (x % 256) }
-{
-    row1((x % 256) as u8 ^ 128)
-}
-
-fn entry2(x: u64) -> u32
-    ensures { result ≡ steps 24 (x % 256) }
-{
-    row2((x % 256) as u8 ^ 128)
-}
-
-fn entry3(x: u64) -> u32
-    ensures { result ≡ steps 32 (x % 256) }
-{
-    row3((x % 256) as u8 ^ 128)
-}
-
-fn entry4(x: u64) -> u32
-    ensures { result ≡ steps 40 (x % 256) }
-{
-    row4((x % 256) as u8 ^ 128)
-}
-
-fn entry5(x: u64) -> u32
-    ensures { result ≡ steps 48 (x % 256) }
-{
-    row5((x % 256) as u8 ^ 128)
-}
-
-fn entry6(x: u64) -> u32
-    ensures { result ≡ steps 56 (x % 256) }
-{
-    row6((x % 256) as u8 ^ 128)
-}
-
-fn entry7(x: u64) -> u32
-    ensures { result ≡ steps 64 (x % 256) }
-{
-    row7((x % 256) as u8 ^ 128)
-}
-
-// A byte at once, in two halves.
+// A byte at once.
 fn table_step(c: u32, b: u8) -> u32
     ensures { result ≡ byte_step c b }
 {
     let x = c ^ (b as u32);
-    (x >> 8) ^ (low_half(x) ^ high_half(x >> 4))
+    (x >> 8) ^ entry(0, (x % 256) as u8)
 }
 
-// Eight bytes at once.
-fn word_step(x: u64) -> u32
-    ensures { result ≡ steps 64 x }
+// Eight bytes at once. Four are fed into the register as one number, and the other four are looked up by themselves: that
+// takes fewer instructions than all eight as one number.
+fn word_step(c: u32, s: &[u8; 8]) -> u32
+    ensures { result ≡ register c s.now }
 {
-    entry7(x)
-        ^ (entry6(x >> 8)
-            ^ (entry5(x >> 16)
-                ^ (entry4(x >> 24)
-                    ^ (entry3(x >> 32) ^ (entry2(x >> 40) ^ (entry1(x >> 48) ^ entry0(x >> 56)))))))
-}
-
-// The first eight bytes of a slice.
-fn part_step(c: u32, s: &[u8]) -> u32
-    requires { 8 ≤ length s.now }
-    ensures { result ≡ register c (take 8 s.now) }
-{
-    word_step((c as u64) ^ wire::number::read_u64(s))
+    let [b0, b1, b2, b3, b4, b5, b6, b7] = *s;
+    let [x0, x1, x2, x3] = (c ^ u32::from_le_bytes([b0, b1, b2, b3])).to_le_bytes();
+    entry(7, x0)
+        ^ entry(6, x1)
+        ^ entry(5, x2)
+        ^ entry(4, x3)
+        ^ entry(3, b4)
+        ^ entry(2, b5)
+        ^ entry(1, b6)
+        ^ entry(0, b7)
 }
 
 // The sum of all bytes of a slice: eight at a time, then the rest a byte at a time.
 pub fn crc32c(s: &[u8]) -> u32
     ensures { result ≡ crc32c s.now }
 {
+    let (words, rest) = s.as_chunks::<8>();
     let mut c: u32 = 0xFFFFFFFF;
-    let mut i = 0;
-    while 8 <= s.len() - i {
-        c = part_step(c, &s[i..]);
-        i += 8;
+    for word in words {
+        c = word_step(c, word);
     }
-    while i < s.len() {
-        c = table_step(c, s[i]);
-        i += 1;
+    for b in rest {
+        c = table_step(c, *b);
     }
     complement(c)
 }

@@ -25,7 +25,9 @@ use Rattle.wire.specs.Search.{first_from}
 use Rattle.wire.specs.Map.{map_positions, bit_at, present, with_bit, with_position}
 use Rattle.wire.specs.Text.{fixed_part}
 use Rattle.wire.proofs.NumberLaws.{length-number_bytes, number-again}
+use Rattle.std.specs.Prelude.{Result, Ok}
 use Rattle.fields.specs.declared.value.Value.{Value}
+use Rattle.fields.specs.declared.value.NoValue.{NoValue}
 use Rattle.fields.specs.declared.value.Value.TheVariants.{Number}
 use Rattle.fields.specs.Cut.{positions, extent, extent_of, cut_at, cut, bytes_at}
 use Rattle.fields.specs.Sets.{is_row_of, stands_at, position_of}
@@ -107,9 +109,9 @@ fields-same : (messagetype : ℕ) (m m' b b' ps : List ℕ) → ((p : ℕ) → v
 unfolding fields_at
 fields-same messagetype m m' b b' [] f g = refl
 fields-same messagetype m m' b b' (p ∷ ps) f g =
-    ap₂ (λ (x : Said) (xs : List Said). x ∷ xs) (ap₂ (λ (v : Value) (t : List ℕ). said_of v t) (f p) (g p)) (fields-same messagetype m m' b b' ps f g)
+    ap₂ (λ (x : Said) (xs : List Said). x ∷ xs) (ap₂ (λ (v : Result Value NoValue) (t : List ℕ). said_of v t) (f p) (g p)) (fields-same messagetype m m' b b' ps f g)
   where
-    said_of : Value → List ℕ → Said
+    said_of : Result Value NoValue → List ℕ → Said
     said_of v t = record { value = v; text = t }
 
 writer-said : (comp_id : List ℕ) (x : Outgoing) (s : List ℕ) (n : ℕ) → Says s n x.head comp_id x.map x.body → said s ≡ says_of comp_id x ∷ []
@@ -183,7 +185,7 @@ value-of : (s bytes : List ℕ) (p : ℕ) → bytes_at p (cut_at rows (0 ∷ 1 �
 unfolding value_at cut
 value-of s bytes p e = ap (λ (ps : List ℕ). value_in rows fill_map p (bytes_at p (cut_at rows ps s))) fill-positions ∙ ap (value_in rows fill_map p) e
 
-fill-sorts : (a b c d : ℕ) → (value_in rows fill_map 0 (yes ∷ a ∷ b ∷ c ∷ d ∷ []) ≡ Number yes) × (value_in rows fill_map 1 (a ∷ b ∷ c ∷ d ∷ []) ≡ Number (number (a ∷ b ∷ c ∷ d ∷ [])))
+fill-sorts : (a b c d : ℕ) → (value_in rows fill_map 0 (yes ∷ a ∷ b ∷ c ∷ d ∷ []) ≡ Ok (Number yes)) × (value_in rows fill_map 1 (a ∷ b ∷ c ∷ d ∷ []) ≡ Ok (Number (number (a ∷ b ∷ c ∷ d ∷ []))))
 unfolding value_in row_value field_value sort_value number_value present bit_at row_at row_of tables_of union_at sequence_reset entry sort_of number
 fill-sorts a b c d = (refl, refl)
 
@@ -192,16 +194,16 @@ module _ (a b c d : ℕ) where
   abbrev fill_body : List ℕ
   fill_body = yes ∷ a ∷ b ∷ c ∷ d ∷ []
 
-  fill-flag : value_of rows fill_map fill_body GapFillField ≡ Number yes
+  fill-flag : value_of rows fill_map fill_body GapFillField ≡ Ok (Number yes)
   unfolding value_of
   fill-flag = ap (value_at rows fill_map fill_body) fill-places.0 ∙ value-of fill_body fill_body 0 (fill-cut a b c d).0 ∙ (fill-sorts a b c d).0
 
-  fill-new : value_of rows fill_map fill_body NewSequenceNumber ≡ Number (number (a ∷ b ∷ c ∷ d ∷ []))
+  fill-new : value_of rows fill_map fill_body NewSequenceNumber ≡ Ok (Number (number (a ∷ b ∷ c ∷ d ∷ [])))
   unfolding value_of
   fill-new = ap (value_at rows fill_map fill_body) fill-places.1 ∙ value-of fill_body (a ∷ b ∷ c ∷ d ∷ []) 1 (fill-cut a b c d).1 ∙ (fill-sorts a b c d).1
 
 -- so the session finds a gap fill to New in them
-gap-content : (new : ℕ) (f n : Value) → f ≡ Number yes → n ≡ Number new → new ≤ last
+gap-content : (new : ℕ) (f n : Result Value NoValue) → f ≡ Ok (Number yes) → n ≡ Ok (Number new) → new ≤ last
     → cond (is_yes f) (sort.GapFill (up_to last n)) (sort.Reset (up_to last n)) ≡ sort.GapFill new
 unfolding is_yes up_to
 gap-content new f n e k l = rw (e, k, le-leb new last l) refl
@@ -258,7 +260,7 @@ module _ (ours comp_id : List ℕ) (o : comp_id ≡ fixed_part Ascii comp_id_byt
   fill-told =
       gap-content new (value_of rows (map_in bytes) (body_in size bytes) GapFillField) (value_of rows (map_in bytes) (body_in size bytes) NewSequenceNumber)
       (fill-value GapFillField ∙ fill-flag (byte_at 0) (byte_at 1) (byte_at 2) (byte_at 3))
-      (fill-value NewSequenceNumber ∙ fill-new (byte_at 0) (byte_at 1) (byte_at 2) (byte_at 3) ∙ ap Number new-again) k
+      (fill-value NewSequenceNumber ∙ fill-new (byte_at 0) (byte_at 1) (byte_at 2) (byte_at 3) ∙ ap (λ (k : ℕ). Ok (Number k)) new-again) k
 
   own-fill : Fill ours first new bytes
   own-fill = record { header = x.head; length = size; read = fill-read.read; for-us = for-us ours comp_id bytes o fill-read.comp-id; number = refl; told = fill-told }

@@ -25,6 +25,7 @@ use Rattle.tables.specs.Reports.{
   union_at,
 }
 use Rattle.tables.specs.Tables.{is_type, heartbeat, sequence_reset, logon, business_message_reject, tables_of, row_of}
+use Rattle.std.specs.Prelude.{Ok}
 use Rattle.fields.specs.declared.value.Value.TheVariants.{Decimal, Text}
 use Rattle.fields.specs.Sets.{unknown_to, unknown_at, missing_at, place_of, lowest, lowest_unknown, lowest_missing, is_row_of, stands_at, position_of}
 use Rattle.fields.specs.Check.{whole, yes_no, fixed_taken, fixed, check_sort, check_row}
@@ -105,7 +106,7 @@ report_bytes n possdup sum =
 
 -- what it says: its broker, security and source of that ID, time, side, order, execution, status and type of execution; 200 filled and 300 open; a copy
 abbrev pub text_said : List ℕ → Said
-text_said s = record { value = Text (length s); text = s }
+text_said s = record { value = Ok (Text (length s)); text = s }
 
 unfoldable pub report_said : ℕ → Content
 report_said n = record {
@@ -123,8 +124,8 @@ report_said n = record {
       text_said (spelled "E1") ∷
       number_said 1 ∷
       number_said 70 ∷
-      record { value = Decimal (pos 20000000000); text = [] } ∷
-      record { value = Decimal (pos 30000000000); text = [] } ∷
+      record { value = Ok (Decimal (pos 20000000000)); text = [] } ∷
+      record { value = Ok (Decimal (pos 30000000000)); text = [] } ∷
       number_said 1 ∷
       [];
 }

@@ -25,7 +25,7 @@ use Rattle.wire.proofs.MapLaws.{no-bit, length-with, present-with, present-with-
 use Rattle.wire.proofs.TestLaws.{either}
 use Rattle.wire.proofs.TextLaws.{takes-by-characters, length-fixed_bytes, fixed-again, length-variable_bytes, variable-again}
 use Rattle.fields.specs.declared.check.Checked.TheVariants.{Good}
-use Rattle.fields.specs.declared.sets.Place.TheVariants.{Nowhere}
+use Rattle.std.specs.Prelude.{None}
 use Rattle.fields.specs.declared.walk.Walked.TheVariants.{Done}
 use Rattle.fields.specs.Check.{yes_no, fixed_taken, fixed, variable_taken, variable, check_sort, check_row}
 use Rattle.fields.specs.Cut.{positions, cut_at}
@@ -229,14 +229,14 @@ module _ (rows : ℕ → Row) where
       go UnknownPosition = refl
       go UnknownType = refl
 
-  nowhere : (test : ℕ → Bool) → ((p : ℕ) → present full_map p ≡ is_known (rows p) → test p ≡ false) → lowest test ≡ Nowhere
+  nowhere : (test : ℕ → Bool) → ((p : ℕ) → present full_map p ≡ is_known (rows p) → test p ≡ false) → lowest test ≡ None
   nowhere test none = sym (place_none test (first-none test (record { none = λ p l. none p (full-known p l) })))
 
-  pub full-unknown : lowest_unknown rows full_map ≡ Nowhere
+  pub full-unknown : lowest_unknown rows full_map ≡ None
   unfolding lowest_unknown
   full-unknown = nowhere (unknown_at rows full_map) known-or-clear
 
-  pub full-missing : lowest_missing rows full_map ≡ Nowhere
+  pub full-missing : lowest_missing rows full_map ≡ None
   unfolding lowest_missing
   full-missing = nowhere (missing_at rows full_map) required-or-known
 

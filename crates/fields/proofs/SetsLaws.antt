@@ -16,7 +16,7 @@ use Rattle.wire.specs.Map.{bit_at, present, next_bit}
 use Rattle.wire.specs.Search.{first_from}
 use Rattle.wire.proofs.MapLaws.{present-at}
 use Rattle.wire.proofs.SearchLaws.{first-is, first_found}
-use Rattle.fields.specs.declared.sets.Place.TheVariants.{At, Nowhere}
+use Rattle.std.specs.Prelude.{Some, None}
 use Rattle.fields.specs.Sets.{
   unknown_to,
   unknown_at,
@@ -61,11 +61,11 @@ module _ (test : ℕ → Bool) where
   first-none h =
       first-is test 256 0 256 (omega arith) (omega arith) (λ k z u. h.none k u) (λ u. absurd (omega arith))
 
-  pub place_at : (p : ℕ) → p < 256 → first_from test 256 0 ≡ p → At p ≡ lowest test
+  pub place_at : (p : ℕ) → p < 256 → first_from test 256 0 ≡ p → Some p ≡ lowest test
   unfolding lowest place_of
   place_at p l f = rw (f, lt-ltb p 256 l)
 
-  pub place_none : first_from test 256 0 ≡ 256 → Nowhere ≡ lowest test
+  pub place_none : first_from test 256 0 ≡ 256 → None ≡ lowest test
   unfolding lowest place_of
   place_none f = rw f
 
@@ -100,7 +100,7 @@ module _ (rows : ℕ → Row) (m : List ℕ) where
       (λ k l u. unknown-clear k (present-between m i (j + 1) r x k (omega arith) u))
 
   pub unknown-hit : (i j : ℕ) → i < 32 → j < 8 → bit_at (get_or m i 0) j ≡ true → unknown_to rows (i * 8 + j) ≡ true
-      → NoneBelow (unknown_at rows m) (i * 8 + j) → At (i * 8 + j) ≡ lowest_unknown rows m
+      → NoneBelow (unknown_at rows m) (i * 8 + j) → Some (i * 8 + j) ≡ lowest_unknown rows m
   unfolding lowest_unknown
   unknown-hit i j u l b e h =
       let v : i * 8 + j < 256 = omega arith in
@@ -110,12 +110,12 @@ module _ (rows : ℕ → Row) (m : List ℕ) where
   unknown-leave i j e h = let z : (i + 1) * 8 ≡ i * 8 + j = omega arith in rw z h
 
   -- all 256 positions are passed, or the map has ended
-  pub unknown-end : (i : ℕ) → 32 ≤ i → NoneBelow (unknown_at rows m) (i * 8) → Nowhere ≡ lowest_unknown rows m
+  pub unknown-end : (i : ℕ) → 32 ≤ i → NoneBelow (unknown_at rows m) (i * 8) → None ≡ lowest_unknown rows m
   unfolding lowest_unknown
   unknown-end i u h =
       place_none (unknown_at rows m) (first-none (unknown_at rows m) (none-up-to (unknown_at rows m) (i * 8) 256 h (λ k l v. absurd (omega arith))))
 
-  pub unknown-beyond : (i : ℕ) → length m ≤ i → NoneBelow (unknown_at rows m) (i * 8) → Nowhere ≡ lowest_unknown rows m
+  pub unknown-beyond : (i : ℕ) → length m ≤ i → NoneBelow (unknown_at rows m) (i * 8) → None ≡ lowest_unknown rows m
   unfolding lowest_unknown
   unknown-beyond i u h =
       place_none (unknown_at rows m)
@@ -144,12 +144,12 @@ module _ (messagetype : ℕ) (m : List ℕ) where
   missing-beyond : (p : ℕ) → span_of messagetype ≤ p → missing_at (row_of messagetype) m p ≡ false
   missing-beyond p h = missing-optional (row_of messagetype) m p (beyond-required messagetype p h)
 
-  pub missing-hit : (p : ℕ) → p < span_of messagetype → missing_at (row_of messagetype) m p ≡ true → NoneBelow (missing_at (row_of messagetype) m) p → At p ≡ lowest_missing (row_of messagetype) m
+  pub missing-hit : (p : ℕ) → p < span_of messagetype → missing_at (row_of messagetype) m p ≡ true → NoneBelow (missing_at (row_of messagetype) m) p → Some p ≡ lowest_missing (row_of messagetype) m
   unfolding lowest_missing
   missing-hit p l e h =
       place_at (missing_at (row_of messagetype) m) p (omega (arith, span-within messagetype)) (span-hit (missing_at (row_of messagetype) m) messagetype missing-beyond p l e h)
 
-  pub missing-end : (p : ℕ) → span_of messagetype ≤ p → NoneBelow (missing_at (row_of messagetype) m) p → Nowhere ≡ lowest_missing (row_of messagetype) m
+  pub missing-end : (p : ℕ) → span_of messagetype ≤ p → NoneBelow (missing_at (row_of messagetype) m) p → None ≡ lowest_missing (row_of messagetype) m
   unfolding lowest_missing
   missing-end p l h = place_none (missing_at (row_of messagetype) m) (span-end (missing_at (row_of messagetype) m) messagetype missing-beyond p l h)
 

@@ -8,13 +8,6 @@ use tables::dictionary::{Field, row_number};
 use tables::table::{Row, row_of, span_of};
 use wire::map::{MAP_BYTES, MAP_POSITIONS, is_present, next_bit};
 
-// A position of a map, or none.
-#[derive(Clone, Copy)]
-pub enum Place {
-    At(usize),
-    Nowhere,
-}
-
 // Whether the type does not know position p.
 fn is_unknown(messagetype: u8, p: usize) -> bool
     ensures { result ≡ unknown_to (row_of messagetype) p }
@@ -33,7 +26,7 @@ fn is_missing(messagetype: u8, map: &[u8], p: usize) -> bool
 }
 
 // The lowest set position that the type does not know, one by one. Only set positions are looked up.
-fn search_unknown(messagetype: u8, map: &[u8]) -> Place
+fn search_unknown(messagetype: u8, map: &[u8]) -> Option<usize>
     ensures { result ≡ lowest_unknown (row_of messagetype) map.now }
 {
     let mut i: usize = 0;
@@ -43,17 +36,17 @@ fn search_unknown(messagetype: u8, map: &[u8]) -> Place
         while j < 8 {
             let p = i * 8 + j as usize;
             if is_unknown(messagetype, p) {
-                return Place::At(p);
+                return Some(p);
             }
             j = next_bit(byte, j + 1);
         }
         i += 1;
     }
-    Place::Nowhere
+    None
 }
 
 // The lowest set position that the type does not know. Most maps have none, which the quick tests show.
-pub fn lowest_unknown(messagetype: u8, map: &[u8]) -> Place
+pub fn lowest_unknown(messagetype: u8, map: &[u8]) -> Option<usize>
     ensures { result ≡ lowest_unknown (row_of messagetype) map.now }
 {
     if !is_low(map) {
@@ -62,33 +55,33 @@ pub fn lowest_unknown(messagetype: u8, map: &[u8]) -> Place
     if word_at(map, 0) & unknown_word(messagetype) != 0 {
         return search_unknown(messagetype, map);
     }
-    Place::Nowhere
+    None
 }
 
 // The lowest required position that the map has clear, one by one. No position past the type's span is required.
-fn search_missing(messagetype: u8, map: &[u8]) -> Place
+fn search_missing(messagetype: u8, map: &[u8]) -> Option<usize>
     ensures { result ≡ lowest_missing (row_of messagetype) map.now }
 {
     let span = span_of(messagetype);
     let mut p: usize = 0;
     while p < span {
         if is_missing(messagetype, map, p) {
-            return Place::At(p);
+            return Some(p);
         }
         p += 1;
     }
-    Place::Nowhere
+    None
 }
 
 // The lowest required position that the map has clear. Most maps have none, which the quick test shows.
-pub fn lowest_missing(messagetype: u8, map: &[u8]) -> Place
+pub fn lowest_missing(messagetype: u8, map: &[u8]) -> Option<usize>
     ensures { result ≡ lowest_missing (row_of messagetype) map.now }
 {
     let required = required_word(messagetype);
     if word_at(map, 0) & required != required {
         return search_missing(messagetype, map);
     }
-    Place::Nowhere
+    None
 }
 
 fn is_row_of(field: Field, row: Row) -> bool

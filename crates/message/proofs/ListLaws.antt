@@ -1,4 +1,5 @@
 -- Laws of the list of fields: what its quick shapes say, how long it is, and that it says what the questions answer.
+use Rattle.std.specs.Prelude.{Result, Ok, Err}
 use mathlib.Core.Path.{◌≡◌, refl, sym, ap, ◌∙◌}
 use mathlib.Core.Bool.{Bool, true, false, cond}
 use mathlib.Core.List.{List, [], ◌∷◌, ◌++◌}
@@ -35,6 +36,8 @@ use Rattle.fields.specs.declared.check.Shape.{Shape}
 use Rattle.fields.specs.declared.check.Shape.TheVariants.{Number, Decimal, Fixed, Other}
 use Rattle.fields.specs.declared.value.Value.{Value}
 use Rattle.fields.specs.declared.value.Value.TheVariants as value
+use Rattle.fields.specs.declared.value.NoValue.{NoValue}
+use Rattle.fields.specs.declared.value.NoValue.TheVariants as no
 use Rattle.fields.specs.declared.walk.Walked.TheVariants.{Done}
 use Rattle.fields.specs.Check.{check_row}
 use Rattle.fields.specs.Cut.{head_positions, positions, extent_of, Piece, cut_at, cut, head_of}
@@ -68,7 +71,7 @@ pub fits : (n : ℕ) → n ≤ head_positions → Fits w64 n
 fits n h = omega arith
 
 -- a good field has no bad value
-pub good-value : (row : Row) (s : List ℕ) (taken plain : ℕ) → check_row row s ≡ checked.Good taken plain → row_value row true s ≡ value.Bad → ⊥
+pub good-value : (row : Row) (s : List ℕ) (taken plain : ℕ) → check_row row s ≡ checked.Good taken plain → row_value row true s ≡ Err no.Bad → ⊥
 unfolding field_value
 good-value row s taken plain e b =
     let g = row-good row s taken plain e in
@@ -76,7 +79,7 @@ good-value row s taken plain e b =
 
 -- so its bytes are there
 module _ (w : ℕ) (s : List ℕ) where
-  pub number-room : (number_value w s ≡ value.Bad → ⊥) → w ≤ length s
+  pub number-room : (number_value w s ≡ Err no.Bad → ⊥) → w ≤ length s
   unfolding number_value
   number-room h = go (leb w (length s)) refl
     where
@@ -87,19 +90,19 @@ module _ (w : ℕ) (s : List ℕ) where
   -- and of a fixed text the characters before its null
   pub record Counted (allowed : Allowed) : Type 0 where
     pub room : w ≤ length s
-    pub is : text_value (fixed_text allowed w s) ≡ value.Text (characters allowed (take w s))
+    pub is : text_value (fixed_text allowed w s) ≡ Ok (value.Text (characters allowed (take w s)))
 
-  pub text-counted : (allowed : Allowed) → (text_value (fixed_text allowed w s) ≡ value.Bad → ⊥) → Counted allowed
+  pub text-counted : (allowed : Allowed) → (text_value (fixed_text allowed w s) ≡ Err no.Bad → ⊥) → Counted allowed
   unfolding text_value
   text-counted allowed h = go (fixed_text allowed w s) refl
     where
       go : (t : Text) → fixed_text allowed w s ≡ t → Counted allowed
       go (text.Good n k) e =
           let g = fixed-good allowed w s n k e in
-          record { room = g.whole; is = ap text_value e ∙ ap value.Text (sym (characters-null allowed (take w s) n g.ends)) }
+          record { room = g.whole; is = ap text_value e ∙ ap (λ (x : ℕ). Ok (value.Text x)) (sym (characters-null allowed (take w s) n g.ends)) }
       go text.Bad e = absurd (h (ap text_value e))
 
-pub decimal-room : (s : List ℕ) → (decimal_value s ≡ value.Bad → ⊥) → 8 ≤ length s
+pub decimal-room : (s : List ℕ) → (decimal_value s ≡ Err no.Bad → ⊥) → 8 ≤ length s
 unfolding decimal_value
 decimal-room s h = go (leb 8 (length s)) refl
   where
@@ -113,20 +116,20 @@ unfolding decimal
 decimal-bits s b = unsigned_signed (number (take 8 s)) (number-take s 8 b)
 
 -- a value that is a Decimal is the one in the first eight bytes
-number-no-decimal : (b : Bool) (n : ℕ) (z : ℤ) {A : Type 0} → cond b (value.Number n) value.Bad ≡ value.Decimal z → A
+number-no-decimal : (b : Bool) (n : ℕ) (z : ℤ) {A : Type 0} → cond b (Ok (value.Number n)) (Err no.Bad) ≡ Ok (value.Decimal z) → A
 number-no-decimal true n z e = let y : ◌≡◌ {A = ℕ} 0 1 = cc in absurd (omega arith)
 number-no-decimal false n z e = let y : ◌≡◌ {A = ℕ} 0 1 = cc in absurd (omega arith)
 
-decimal-own : (b : Bool) (y z : ℤ) → cond b (value.Decimal y) value.Bad ≡ value.Decimal z → z ≡ y
+decimal-own : (b : Bool) (y z : ℤ) → cond b (Ok (value.Decimal y)) (Err no.Bad) ≡ Ok (value.Decimal z) → z ≡ y
 decimal-own true y z e = cc
 decimal-own false y z e = let y : ◌≡◌ {A = ℕ} 0 1 = cc in absurd (omega arith)
 
-text-no-decimal : (t : Text) (z : ℤ) {A : Type 0} → text_value t ≡ value.Decimal z → A
+text-no-decimal : (t : Text) (z : ℤ) {A : Type 0} → text_value t ≡ Ok (value.Decimal z) → A
 unfolding text_value
 text-no-decimal (text.Good n k) z e = let y : ◌≡◌ {A = ℕ} 0 1 = cc in absurd (omega arith)
 text-no-decimal text.Bad z e = let y : ◌≡◌ {A = ℕ} 0 1 = cc in absurd (omega arith)
 
-sort-decimal : (k : Sort) (s : List ℕ) (z : ℤ) → sort_value k s ≡ value.Decimal z → z ≡ decimal (take 8 s)
+sort-decimal : (k : Sort) (s : List ℕ) (z : ℤ) → sort_value k s ≡ Ok (value.Decimal z) → z ≡ decimal (take 8 s)
 unfolding sort_value number_value decimal_value
 sort-decimal (sort.Number w) s z e = number-no-decimal (leb w (length s)) _ z e
 sort-decimal sort.Decimal s z e = decimal-own (leb 8 (length s)) _ z e
@@ -135,7 +138,7 @@ sort-decimal sort.YesNo s z e = number-no-decimal (leb 1 (length s)) _ z e
 sort-decimal (sort.Fixed allowed w) s z e = text-no-decimal (fixed_text allowed w s) z e
 sort-decimal (sort.Variable allowed size) s z e = text-no-decimal _ z e
 
-pub row-decimal : (row : Row) (s : List ℕ) (z : ℤ) → row_value row true s ≡ value.Decimal z → z ≡ decimal (take 8 s)
+pub row-decimal : (row : Row) (s : List ℕ) (z : ℤ) → row_value row true s ≡ Ok (value.Decimal z) → z ≡ decimal (take 8 s)
 unfolding row_value field_value
 row-decimal (Required f) s z e = sort-decimal (sort_of f) s z e
 row-decimal (Optional f) s z e = sort-decimal (sort_of f) s z e
@@ -160,19 +163,19 @@ shape-lead UnknownPosition h = refl
 shape-lead UnknownType h = refl
 
 -- the five numbers of a field of which so much is known
-pub five-told : (row : Row) (whole p at wide : ℕ) (s : List ℕ) (v : Value) → at ≡ text_start row whole (length s) → wide ≡ extent_of row s
+pub five-told : (row : Row) (whole p at wide : ℕ) (s : List ℕ) (v : Result Value NoValue) → at ≡ text_start row whole (length s) → wide ≡ extent_of row s
     → row_value row true s ≡ v → five_of row whole p s ≡ five p at wide v
 unfolding five_of
 five-told row whole p at wide s v a w e = rw (sym a, sym w, e)
 
 -- they are laid: e is what the code lays, and y the list afterwards
-pub told-laid : (row : Row) (whole p at wide : ℕ) (s d e y : List ℕ) (v : Value) → at ≡ text_start row whole (length s) → wide ≡ extent_of row s
+pub told-laid : (row : Row) (whole p at wide : ℕ) (s d e y : List ℕ) (v : Result Value NoValue) → at ≡ text_start row whole (length s) → wide ≡ extent_of row s
     → row_value row true s ≡ v → five p at wide v ≡ e → y ≡ laid e d → (wide ≡ extent_of row s) × (y ≡ laid (five_of row whole p s) d)
 told-laid row whole p at wide s d e y v a w q f l =
     (w, l ∙ ap (λ (x : List ℕ). laid x d) (sym (five-told row whole p at wide s v a w q ∙ f)))
 
 -- the value that the map has
-pub set_value : (rows : ℕ → Row) (m : List ℕ) (p : ℕ) (s : List ℕ) (v u : Value) → present m p ≡ true → v ≡ value_in rows m p s → v ≡ u → row_value (rows p) true s ≡ u
+pub set_value : (rows : ℕ → Row) (m : List ℕ) (p : ℕ) (s : List ℕ) (v u : Result Value NoValue) → present m p ≡ true → v ≡ value_in rows m p s → v ≡ u → row_value (rows p) true s ≡ u
 unfolding value_in
 set_value rows m p s v u h e q = rw h at (sym e ∙ q)
 
@@ -182,11 +185,11 @@ quick-start row whole s h = omega (arith, shape-lead row h)
 
 -- a Decimal is laid as the number in its bytes
 pub decimal-laid : (row : Row) (whole p at wide n : ℕ) (s d y : List ℕ) (z : ℤ) → at ≡ text_start row whole (length s) → wide ≡ extent_of row s
-    → row_value row true s ≡ value.Decimal z → Bytes s → n ≡ number (take 8 s) → y ≡ laid (p ∷ 2 ∷ at ∷ wide ∷ n ∷ []) d
+    → row_value row true s ≡ Ok (value.Decimal z) → Bytes s → n ≡ number (take 8 s) → y ≡ laid (p ∷ 2 ∷ at ∷ wide ∷ n ∷ []) d
     → (wide ≡ extent_of row s) × (y ≡ laid (five_of row whole p s) d)
 unfolding five
 decimal-laid row whole p at wide n s d y z a w q b e l =
-    told-laid row whole p at wide s d _ y (value.Decimal z) a w q
+    told-laid row whole p at wide s d _ y (Ok (value.Decimal z)) a w q
     (ap (λ (k : ℕ). p ∷ 2 ∷ at ∷ wide ∷ k ∷ []) (ap unsigned (row-decimal row s z q) ∙ decimal-bits s b ∙ sym e)) l
 
 -- a good field of a quick shape
@@ -199,7 +202,7 @@ decimal-is e = let y : ◌≡◌ {A = ℕ} 0 1 = cc in omega arith
 fixed-is : (allowed : Allowed) (w : ℕ) → Fixed allowed w ≡ Other → ⊥
 fixed-is allowed w e = let y : ◌≡◌ {A = ℕ} 0 1 = cc in omega arith
 
-module _ (messagetype p whole : ℕ) (s : List ℕ) (good : row_value (row_of messagetype p) true s ≡ value.Bad → ⊥) where
+module _ (messagetype p whole : ℕ) (s : List ℕ) (good : row_value (row_of messagetype p) true s ≡ Err no.Bad → ⊥) where
   starts : (x : Shape) → shape_at messagetype p ≡ x → (x ≡ Other → ⊥) → whole - 4 - length s ≡ text_start (row_of messagetype p) whole (length s)
   starts x e h = quick-start (row_of messagetype p) whole s (λ q. h (sym (shape-at messagetype p x e h) ∙ q))
 
@@ -213,7 +216,7 @@ module _ (messagetype p whole : ℕ) (s : List ℕ) (good : row_value (row_of me
     quick-number n d y q l =
         let t = at-number messagetype p s w e in
         told-laid (row_of messagetype p) whole p _ w s d _ y _ (starts (Number w) e (number_is w)) (sym t.taken)
-        (t.value ∙ number-value w s quick-number-room ∙ ap value.Number (sym q)) refl l
+        (t.value ∙ number-value w s quick-number-room ∙ ap (λ (x : ℕ). Ok (value.Number x)) (sym q)) refl l
 
   module _ (e : shape_at messagetype p ≡ Decimal) where
     pub quick-decimal : (n : ℕ) (d y : List ℕ) → Bytes s → n ≡ number (take 8 s) → y ≡ laid (p ∷ 2 ∷ (whole - 4 - length s) ∷ 8 ∷ n ∷ []) d
@@ -233,17 +236,15 @@ module _ (messagetype p whole : ℕ) (s : List ℕ) (good : row_value (row_of me
     quick-fixed n d y q l =
         let t = at-fixed messagetype p s allowed w e in
         told-laid (row_of messagetype p) whole p _ w s d _ y _ (starts (Fixed allowed w) e (fixed-is allowed w)) (sym t.taken)
-        (t.value ∙ (text-counted w s allowed (λ b. good (t.value ∙ b))).is ∙ ap value.Text (sym q)) refl l
+        (t.value ∙ (text-counted w s allowed (λ b. good (t.value ∙ b))).is ∙ ap (λ (x : ℕ). Ok (value.Text x)) (sym q)) refl l
 
 -- a list has five numbers for each field
-five-length : (p at wide : ℕ) (v : Value) → length (five p at wide v) ≡ 5
+five-length : (p at wide : ℕ) (v : Result Value NoValue) → length (five p at wide v) ≡ 5
 unfolding five
-five-length p at wide (value.Number n) = refl
-five-length p at wide (value.Decimal z) = refl
-five-length p at wide (value.Text n) = refl
-five-length p at wide value.Bad = refl
-five-length p at wide value.Absent = refl
-five-length p at wide value.Unknown = refl
+five-length p at wide (Ok (value.Number n)) = refl
+five-length p at wide (Ok (value.Decimal z)) = refl
+five-length p at wide (Ok (value.Text n)) = refl
+five-length p at wide (Err why) = refl
 
 pub field-length : (row : Row) (whole p : ℕ) (s : List ℕ) → length (five_of row whole p s) ≡ 5
 unfolding five_of
@@ -303,7 +304,7 @@ module _ {messagetype whole : ℕ} {m body d₀ d : List ℕ} {at left : ℕ} {r
     pub listing-set : present m (count_leading_zeros 64 left) ≡ true
     listing-set = found.set
 
-    pub listing-good : row_value (row_of messagetype (count_leading_zeros 64 left)) true rest ≡ value.Bad → ⊥
+    pub listing-good : row_value (row_of messagetype (count_leading_zeros 64 left)) true rest ≡ Err no.Bad → ⊥
     listing-good = good-value (row_of messagetype (count_leading_zeros 64 left)) rest first.taken first.plain-length first.good
 
     pub listing-room : extent_of (row_of messagetype (count_leading_zeros 64 left)) rest ≤ length rest

@@ -1,11 +1,12 @@
 -- All fields of a message at once: `a_field` numbers for each set position, rising, which say what the questions answer there.
-use Rattle.std.specs.Prelude.{ℕ, ◌/◌, true, cond, leb, length}
+use Rattle.std.specs.Prelude.{ℕ, ◌/◌, true, cond, leb, length, Result, Ok, Err}
 use mathlib.Core.List.{List, [], ◌∷◌, ◌++◌, foldr}
 use Rattle.tables.specs.declared.table.Row.{Row}
 use Rattle.tables.specs.Tables.{row_of}
 use Rattle.wire.specs.Decimal.{unsigned}
 use Rattle.fields.specs.declared.value.Value.{Value}
 use Rattle.fields.specs.declared.value.Value.TheVariants as value
+use Rattle.fields.specs.declared.value.NoValue.{NoValue}
 use Rattle.fields.specs.Cut.{Piece, extent_of, cut}
 use Rattle.fields.specs.Value.{row_value}
 use Rattle.message.specs.declared.list.Listed.{Listed}
@@ -31,13 +32,11 @@ abbrev pub text_sort : ℕ
 text_sort = 3
 
 -- position; sort; where it begins; its bytes, or a text's characters; its value, a Decimal's as 64 bits. No field of a good message has sort 0
-unfoldable pub five : ℕ → ℕ → ℕ → Value → List ℕ
-five p at wide (value.Number n) = p ∷ number_sort ∷ at ∷ wide ∷ n ∷ []
-five p at wide (value.Decimal z) = p ∷ decimal_sort ∷ at ∷ wide ∷ unsigned z ∷ []
-five p at wide (value.Text n) = p ∷ text_sort ∷ at ∷ n ∷ 0 ∷ []
-five p at wide value.Bad = p ∷ 0 ∷ at ∷ 0 ∷ 0 ∷ []
-five p at wide value.Absent = p ∷ 0 ∷ at ∷ 0 ∷ 0 ∷ []
-five p at wide value.Unknown = p ∷ 0 ∷ at ∷ 0 ∷ 0 ∷ []
+unfoldable pub five : ℕ → ℕ → ℕ → Result Value NoValue → List ℕ
+five p at wide (Ok (value.Number n)) = p ∷ number_sort ∷ at ∷ wide ∷ n ∷ []
+five p at wide (Ok (value.Decimal z)) = p ∷ decimal_sort ∷ at ∷ wide ∷ unsigned z ∷ []
+five p at wide (Ok (value.Text n)) = p ∷ text_sort ∷ at ∷ n ∷ 0 ∷ []
+five p at wide (Err why) = p ∷ 0 ∷ at ∷ 0 ∷ 0 ∷ []
 
 -- of a field of a message of n bytes
 unfoldable pub five_of : Row → ℕ → ℕ → List ℕ → List ℕ

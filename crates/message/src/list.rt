@@ -1,12 +1,12 @@
 // All fields of the message at the front of lent bytes in one call: one checksum pass, one walk, and then one pass that lays five
 // numbers for each field into a lent list.
-ghost use Rattle.std.specs.Prelude.{◌≡◌, ◌+◌, ◌≤◌, true, ◌∷◌, [], length, take};
+ghost use Rattle.std.specs.Prelude.{◌≡◌, ◌+◌, ◌≤◌, true, ◌∷◌, [], length, take, Err};
 ghost use Rattle.tables.specs.Tables.{row_of};
 ghost use Rattle.wire.specs.Number.{number};
 ghost use Rattle.wire.specs.Laying.{laid};
 ghost use Rattle.wire.specs.Map.{present};
 ghost use Rattle.fields.specs.Cut.{head_positions, positions, extent_of};
-ghost use Rattle.fields.specs.declared.value.Value.TheVariants.{Bad};
+ghost use Rattle.fields.specs.declared.value.NoValue.TheVariants.{Bad};
 ghost use Rattle.fields.specs.Value.{row_value};
 ghost use Rattle.message.specs.declared.read.Reading.TheVariants.{Good};
 ghost use Rattle.message.specs.Frame.{sum_bytes};
@@ -79,12 +79,10 @@ fn lay_other(d: &mut [u64], messagetype: u8, map: &[u8], p: usize, whole: usize,
     let at = text_start(messagetype, p, whole, s.len());
     let taken = extent_at(messagetype, p, s);
     match value_in(messagetype, map, p, s) {
-        Value::Number(n) => lay_five(d, p, NUMBER, at, taken, n),
-        Value::Decimal(_) => lay_five(d, p, DECIMAL, at, taken, read_eight(s)),
-        Value::Text(n) => lay_five(d, p, TEXT, at, n, 0),
-        Value::Bad => lay_five(d, p, 0, at, 0, 0),
-        Value::Absent => lay_five(d, p, 0, at, 0, 0),
-        Value::Unknown => lay_five(d, p, 0, at, 0, 0),
+        Ok(Value::Number(n)) => lay_five(d, p, NUMBER, at, taken, n),
+        Ok(Value::Decimal(_)) => lay_five(d, p, DECIMAL, at, taken, read_eight(s)),
+        Ok(Value::Text(n)) => lay_five(d, p, TEXT, at, n, 0),
+        Err(_) => lay_five(d, p, 0, at, 0, 0),
     }
     taken
 }
@@ -92,7 +90,7 @@ fn lay_other(d: &mut [u64], messagetype: u8, map: &[u8], p: usize, whole: usize,
 // A good field at the front of s, in a message of this length. Its bytes were checked, so none is looked at again but for its value.
 fn lay_field(d: &mut [u64], messagetype: u8, map: &[u8], p: usize, whole: usize, s: &[u8]) -> usize
     requires a_field_in_bounds { (a_field ≤ length d.old) × (present map.now p ≡ true) }
-    requires sum_bytes_len_bound { (length s.now + sum_bytes ≤ whole) × (row_value (row_of messagetype p) true s.now ≡ Bad → ⊥) }
+    requires sum_bytes_len_bound { (length s.now + sum_bytes ≤ whole) × (row_value (row_of messagetype p) true s.now ≡ Err Bad → ⊥) }
     ensures value { result ≡ extent_of (row_of messagetype p) s.now }
     ensures d_after { d.new ≡ laid (five_of (row_of messagetype p) whole p s.now) d.old }
 {

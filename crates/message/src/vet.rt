@@ -7,7 +7,7 @@ ghost use Rattle.message.specs.Vet.{good_comp_id, good_header, vet_walk, vet_fie
 use crate::frame::{COMP_ID_BYTES, Header};
 use crate::refusal::Refusal;
 use fields::check::Reason;
-use fields::sets::{Place, lowest_missing, lowest_unknown};
+use fields::sets::{lowest_missing, lowest_unknown};
 use fields::walk::{Walked, walk};
 use tables::table::is_type;
 use wire::text::{Allowed, takes_text};
@@ -58,10 +58,10 @@ fn bad_at(reason: Reason, p: usize) -> Vetted
 fn vet_fields(messagetype: u8, map: &[u8], body: &[u8]) -> Vetted
     ensures { result ≡ vet_fields (row_of messagetype) map.now body.now }
 {
-    if let Place::At(unknown) = lowest_unknown(messagetype, map) {
+    if let Some(unknown) = lowest_unknown(messagetype, map) {
         return Vetted::Refused(Refusal::UnknownPosition(unknown));
     }
-    if let Place::At(missing) = lowest_missing(messagetype, map) {
+    if let Some(missing) = lowest_missing(messagetype, map) {
         return Vetted::Refused(Refusal::MissingField(missing));
     }
     match walk(messagetype, map, body) {

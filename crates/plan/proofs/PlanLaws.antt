@@ -1,6 +1,6 @@
 -- What the loops of the plan ask: a list that is marked, a gap fill that is still open, and the pairs written so far. Number i + 1 stands at index i.
 use mathlib.Core.Path.{◌≡◌, refl, sym, ap, ap₂, ◌∙◌}
-use Prim.Native.Nat.{ℕ, ◌+◌, ◌-◌, ◌*◌, ◌≤◌, ◌<◌, min}
+use Prim.Native.Nat.{ℕ, zero, suc, ◌+◌, ◌-◌, ◌*◌, ◌≤◌, ◌<◌, min}
 use native.Mathlib.Nat.{le-min, min-le_right}
 use native.Mathlib.Numerals.{add-one}
 use native.Mathlib.Omega.{arith}
@@ -10,9 +10,11 @@ use lib.Dec.{eqb, leb}
 use lib.ListN.{length, get_or, set, take, drop, drop_of_length-le, length-append, length-set, take-append-drop}
 use lib.Seq.{drop-cons, sets-eq, take_at, drop_at, drop-drop, length-take-le}
 use borrow.Author.Tests.{eq-eqb, ne_eqb, le-leb, lt-leb, leb-true}
+use Rattle.std.specs.Prelude.{Result, Ok, Err, MatchBool}
+use Rattle.std.specs.List.{AllWithin, HoldsAt}
 use Rattle.plan.specs.Plan.{Part, business, gap_fill, session, parts_from, last_number, parts_of, all_marked, is_request, pairs, paired, answered, paired_in}
-use Rattle.plan.specs.declared.Planned.{Planned}
-use Rattle.plan.specs.declared.Planned.TheVariants.{Wrote, BadRequest, NoRoom}
+use Rattle.plan.specs.declared.NotPlanned.{NotPlanned}
+use Rattle.plan.specs.declared.NotPlanned.TheVariants.{BadRequest, NoRoom}
 
 -- a gap fill from `first` that has reached n, before what is sent for the numbers from n on
 unfoldable pub opened : ℕ → ℕ → List Part → List Part
@@ -66,18 +68,24 @@ module _ (l : List ℕ) (i : ℕ) where
   run-ends-with-list first h = rw (no-part-left h)
 
 -- the marks
-module _ (l : List ℕ) (i : ℕ) where
-  pub mark-bad : i < length l → 1 < get_or l i 0 → all_marked (drop i l) ≡ false
-  unfolding all_marked
-  mark-bad h b = rw (drop-cons l i 0, lt-leb (get_or l i 0) 1 b)
+marks-good : (l : List ℕ) → AllWithin (λ b. b ≤ 1) l 0 (length l) → all_marked l ≡ true
+unfolding all_marked
+marks-good [] h = refl
+marks-good (b ∷ bs) h = rw (le-leb b 1 (h 0 0 (omega arith) (omega arith))) (marks-good bs (λ k d low high. h (suc k) d (omega arith) (omega arith)))
 
-  pub mark-good : i < length l → get_or l i 0 ≤ 1 → all_marked (drop i l) ≡ all_marked (drop (i + 1) l)
-  unfolding all_marked
-  mark-good h b = rw (drop-cons l i 0, le-leb (get_or l i 0) 1 b, add-one i)
+cond-same : (t : Bool) (u : Bool) → cond t u u ≡ u
+cond-same true u = refl
+cond-same false u = refl
 
-  pub marks-end : length l ≤ i → all_marked (drop i l) ≡ true
-  unfolding all_marked
-  marks-end h = ap all_marked (drop_of_length-le l h)
+mark-bad : (l : List ℕ) (k : ℕ) → k < length l → 1 < get_or l k 0 → all_marked l ≡ false
+unfolding all_marked
+mark-bad [] k h b = absurd (omega arith)
+mark-bad (m ∷ ms) zero h b = rw (lt-leb m 1 b)
+mark-bad (m ∷ ms) (suc k) h b = rw (mark-bad ms k (omega arith) b) (cond-same (leb m 1) false)
+
+pub marks-told : (l : List ℕ) (r : Bool) → MatchBool r (AllWithin (λ b. b ≤ 1) l 0 (length l)) ((k : ℕ) × (k < length l) × HoldsAt (λ b. 1 < b) l k) → r ≡ all_marked l
+marks-told l true h = sym (marks-good l h)
+marks-told l false h = sym (mark-bad l h.0 h.1 (h.2 0))
 
 -- the parts `all` are being written into d₀: `rest` is left, and d is now written up to `at`
 pub record Written (all rest : List Part) (d₀ d : List ℕ) (at : ℕ) : Type 0 where
@@ -165,31 +173,31 @@ parts-at-start list s e n h q =
     ap₂ (λ (k m : ℕ). parts_from k (drop (s - 1) (take m list))) u q
 
 -- the three answers
-pub refused : {good : Bool} (whole : List Part) (d : List ℕ) → good ≡ false → (BadRequest ≡ answered good whole d) × (d ≡ paired_in good whole d)
+pub refused : {good : Bool} (whole : List Part) (d : List ℕ) → good ≡ false → (Err BadRequest ≡ answered good whole d) × (d ≡ paired_in good whole d)
 unfolding answered paired_in
 refused whole d q = (rw q, rw q)
 
 module _ {good : Bool} {whole : List Part} (d : List ℕ) (q : good ≡ true) (ps : List Part) (p : ps ≡ whole) (n : ℕ) (c : n ≡ length ps) where
-  pub no_room : length d < 2 * n → (NoRoom n ≡ answered good whole d) × (d ≡ paired_in good whole d)
+  pub no_room : length d < 2 * n → (Err (NoRoom n) ≡ answered good whole d) × (d ≡ paired_in good whole d)
   unfolding answered paired_in
   no_room h =
       let k : n ≡ length whole = c ∙ ap length p in
       let full = lt-leb (2 * length whole) (length d) (omega arith) in
-      (rw (q, full) (ap NoRoom k), rw (q, full))
+      (rw (q, full) (ap (λ (m : ℕ). Err (NoRoom m)) k), rw (q, full))
 
-  pub wrote : 2 * n ≤ length d → (x : List ℕ) → x ≡ paired ps d → (Wrote n ≡ answered good whole d) × (x ≡ paired_in good whole d)
+  pub wrote : 2 * n ≤ length d → (x : List ℕ) → x ≡ paired ps d → (Ok n ≡ answered good whole d) × (x ≡ paired_in good whole d)
   unfolding answered paired_in
   wrote h x w =
       let k : n ≡ length whole = c ∙ ap length p in
       let room = le-leb (2 * length whole) (length d) (omega arith) in
-      (rw (q, room) (ap Wrote k), rw (q, room) (w ∙ ap (λ (x : List Part). paired x d) p))
+      (rw (q, room) (ap Ok k), rw (q, room) (w ∙ ap (λ (x : List Part). paired x d) p))
 
 -- what was written fits
-pub wrote-fits : (good : Bool) (ps : List Part) (d : List ℕ) (r : Planned) (n : ℕ) → r ≡ answered good ps d → r ≡ Wrote n → 2 * n ≤ length d
+pub wrote-fits : (good : Bool) (ps : List Part) (d : List ℕ) (r : Result ℕ NotPlanned) (n : ℕ) → r ≡ answered good ps d → r ≡ Ok n → 2 * n ≤ length d
 unfolding answered
 wrote-fits good ps d r n a w = go good (leb (2 * length ps) (length d)) refl (sym a ∙ w)
   where
-    go : (a b : Bool) → leb (2 * length ps) (length d) ≡ b → cond a (cond b (Wrote (length ps)) (NoRoom (length ps))) BadRequest ≡ Wrote n → 2 * n ≤ length d
+    go : (a b : Bool) → leb (2 * length ps) (length d) ≡ b → cond a (cond b (Ok (length ps)) (Err (NoRoom (length ps)))) (Err BadRequest) ≡ Ok n → 2 * n ≤ length d
     go false b f w = let z : ◌≡◌ {A = ℕ} 0 1 = cc in absurd (omega arith)
     go true false f w = let z : ◌≡◌ {A = ℕ} 0 1 = cc in absurd (omega arith)
     go true true f w = let k : length ps ≡ n = cc in omega (arith, leb-true (2 * length ps) (length d) f)

@@ -1,7 +1,7 @@
 -- Plans that join (document 02, item 12): the plan for s to m, and the plan for m + 1 to e behind it.
-use Rattle.std.specs.Prelude.{ℕ, ◌+◌, ◌-◌, ◌%◌, ◌<◌, ◌≡◌, Bool, not, cond, ◌&&◌, List, [], ◌∷◌, ◌++◌, eqb, ltb, length, get_or}
+use Rattle.std.specs.Prelude.{ℕ, ◌+◌, ◌-◌, ◌%◌, ◌<◌, ◌≡◌, Bool, not, cond, ◌&&◌, List, [], ◌∷◌, ◌++◌, eqb, ltb, length, get_or, Result}
 use Rattle.plan.specs.Plan.{Part, gap_fill, parts_of, pairs, answered, paired_in}
-use Rattle.plan.specs.declared.Planned.{Planned}
+use Rattle.plan.specs.declared.NotPlanned.{NotPlanned}
 
 -- two gap fills touch: a to b and b to c, a below b and b below c
 unfoldable pub touch : Part → Part → Bool
@@ -35,7 +35,7 @@ abbrev pub joined : List ℕ → List ℕ → List Part
 joined one other = join (parts_in one) (parts_in other)
 
 -- the answer, and the lent buffer afterwards
-abbrev pub join_of : List ℕ → List ℕ → List ℕ → Planned
+abbrev pub join_of : List ℕ → List ℕ → List ℕ → Result ℕ NotPlanned
 join_of one other = answered (is_pairs one && is_pairs other) (joined one other)
 
 abbrev pub joined_in : List ℕ → List ℕ → List ℕ → List ℕ

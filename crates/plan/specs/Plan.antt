@@ -1,14 +1,14 @@
 -- The bench's resend plan (document 01, "The bench's resend plan"): what a gateway sends again for a Resend Request from s to e.
-use Rattle.std.specs.Prelude.{ℕ, ◌+◌, ◌-◌, ◌*◌, min, Bool, true, false, cond, ◌&&◌, ◌||◌, List, [], ◌∷◌, ◌++◌, eqb, leb, length, take, drop}
+use Rattle.std.specs.Prelude.{ℕ, ◌+◌, ◌-◌, ◌*◌, min, Bool, true, false, cond, ◌&&◌, ◌||◌, List, [], ◌∷◌, ◌++◌, eqb, leb, length, take, drop, Result, Ok, Err}
 use Rattle.wire.specs.Laying.{no_room}
-use Rattle.plan.specs.declared.Planned.{Planned}
-use Rattle.plan.specs.declared.Planned.TheVariants.{Wrote, BadRequest, NoRoom}
+use Rattle.plan.specs.declared.NotPlanned.{NotPlanned}
+use Rattle.plan.specs.declared.NotPlanned.TheVariants.{BadRequest, NoRoom}
 
 -- document 01's number of each answer; 0 where nothing is refused
-unfoldable pub refusal : Planned → ℕ
-refusal (Wrote pairs) = 0
-refusal BadRequest = 40
-refusal (NoRoom pairs) = no_room
+unfoldable pub refusal : Result ℕ NotPlanned → ℕ
+refusal (Ok pairs) = 0
+refusal (Err BadRequest) = 40
+refusal (Err (NoRoom pairs)) = no_room
 
 -- one part of a plan: business number `first`, with `new` 0, or a gap fill from `first` to `new`
 pub record Part : Type 0 where
@@ -66,13 +66,13 @@ abbrev pub paired : List Part → List ℕ → List ℕ
 paired ps d = pairs ps ++ drop (2 * length ps) d
 
 -- the answer, and the lent buffer afterwards: nothing written on a refusal
-unfoldable pub answered : Bool → List Part → List ℕ → Planned
-answered good ps d = cond good (cond (leb (2 * length ps) (length d)) (Wrote (length ps)) (NoRoom (length ps))) BadRequest
+unfoldable pub answered : Bool → List Part → List ℕ → Result ℕ NotPlanned
+answered good ps d = cond good (cond (leb (2 * length ps) (length d)) (Ok (length ps)) (Err (NoRoom (length ps)))) (Err BadRequest)
 
 unfoldable pub paired_in : Bool → List Part → List ℕ → List ℕ
 paired_in good ps d = cond good (cond (leb (2 * length ps) (length d)) (paired ps d) d) d
 
-abbrev pub plan_of : List ℕ → ℕ → ℕ → List ℕ → Planned
+abbrev pub plan_of : List ℕ → ℕ → ℕ → List ℕ → Result ℕ NotPlanned
 plan_of list s e = answered (is_request list s e) (parts_of list s e)
 
 abbrev pub planned : List ℕ → ℕ → ℕ → List ℕ → List ℕ

@@ -2,7 +2,7 @@
 // 02, item 12).
 #![tactic(auto)]
 
-ghost use Rattle.std.specs.Prelude.{◌≡◌, ◌∷◌, ◌++◌, true, ◌+◌, ◌-◌, ◌*◌, ◌<◌, ◌≤◌, length, get_or};
+ghost use Rattle.std.specs.Prelude.{◌≡◌, ◌∷◌, ◌++◌, true, ◌+◌, ◌-◌, ◌*◌, ◌<◌, ◌≤◌, length, get_or, Err};
 ghost use Rattle.wire.specs.Laying.{at_front};
 ghost use Rattle.plan.specs.Plan.{plan_of, planned, refusal, all_marked, longest_list, is_request, last_number, gap_fill, parts_at, paired};
 ghost use Rattle.plan.specs.Join.{touch, is_pairs, seam, joined, join_of, joined_in};
@@ -18,23 +18,21 @@ pub const A_PAIR: usize = 2;
 // Document 01's number of a request that has no plan; half a pair where two plans are joined has it too.
 const BAD_REQUEST: u32 = 40;
 
-// How many pairs were written; or the refusal, which has written nothing, with the number of pairs needed.
-#[derive(Clone, Copy)]
-pub enum Planned {
-    Wrote(usize),
+// Why no pairs were written: it is no request, or there is too little room, with the number of pairs needed.
+#[derive(Clone, Copy, PartialEq, Eq, Debug)]
+pub enum NotPlanned {
     BadRequest,
     NoRoom(usize),
 }
 
-impl Planned {
-    // Document 01's number, and 0 where nothing was refused.
-    pub fn refusal(self) -> u32
-        ensures { result ≡ refusal self }
+impl NotPlanned {
+    // Document 01's number.
+    pub fn number(self) -> u32
+        ensures { result ≡ refusal (Err self) }
     {
         match self {
-            Planned::Wrote(_) => 0,
-            Planned::BadRequest => BAD_REQUEST,
-            Planned::NoRoom(_) => NO_ROOM,
+            NotPlanned::BadRequest => BAD_REQUEST,
+            NotPlanned::NoRoom(_) => NO_ROOM,
         }
     }
 }
@@ -42,44 +40,27 @@ impl Planned {
 fn all_marked(list: &[u8]) -> bool
     ensures { result ≡ all_marked list.now }
 {
-    let mut i = 0;
-    while i < list.len() {
-        if 1 < list[i] {
-            return false;
-        }
-        i += 1;
-    }
-    true
+    list.iter().all(|mark| *mark <= 1)
 }
 
 fn is_request(list: &[u8], s: u32, e: u32) -> bool
     ensures { result ≡ is_request list.now s e }
 {
-    if LONGEST_LIST < list.len() {
-        return false;
-    }
-    if !all_marked(list) {
-        return false;
-    }
-    if s < 1 {
-        return false;
-    }
-    if list.len() < s as usize {
-        return false;
-    }
-    if e == 0 { true } else { s <= e }
+    list.len() <= LONGEST_LIST
+        && all_marked(list)
+        && 1 <= s
+        && s as usize <= list.len()
+        && (e == 0 || s <= e)
 }
 
 fn last_number(list: &[u8], e: u32) -> usize
     ensures { (result ≡ last_number list.now e) × (result ≤ length list.now) }
 {
     if e == 0 {
-        return list.len();
+        list.len()
+    } else {
+        list.len().min(e as usize)
     }
-    if list.len() <= e as usize {
-        return list.len();
-    }
-    e as usize
 }
 
 // Number i + 1 stands at index i. A run of session numbers begins there: the index after it.
@@ -87,14 +68,12 @@ fn run_end(list: &[u8], i: usize) -> usize
     requires { (i < length list.now) × (get_or list.now i 0 ≡ 1 → ⊥) }
     ensures { (i < result) × (result ≤ length list.now) × (parts_at list.now i ≡ gap_fill (i + 1) (result + 1) ∷ parts_at list.now result) }
 {
-    let mut end = i + 1;
-    while end < list.len() {
+    for end in i + 1..list.len() {
         if list[end] == 1 {
             return end;
         }
-        end += 1;
     }
-    end
+    list.len()
 }
 
 // A part's New, and the index after the part.
@@ -156,63 +135,37 @@ fn write_parts(list: &[u8], start: usize, d: &mut [u32])
 
 // For Start s and End e, each business number once, rising, and each longest run of session numbers as one gap fill: pairs
 // (n, 0) and (first, New) at the front of d.
-pub fn plan(list: &[u8], s: u32, e: u32, d: &mut [u32]) -> Planned
+pub fn plan(list: &[u8], s: u32, e: u32, d: &mut [u32]) -> Result<usize, NotPlanned>
     ensures { (result ≡ plan_of list.now s e d.old) × (d.new ≡ planned list.now s e d.old) }
 {
     if !is_request(list, s, e) {
-        return Planned::BadRequest;
+        return Err(NotPlanned::BadRequest);
     }
     let last = last_number(list, e);
     let upto = &list[..last];
     let start = (s - 1) as usize;
     let needed = count_parts(upto, start);
     if d.len() < A_PAIR * needed {
-        return Planned::NoRoom(needed);
+        return Err(NotPlanned::NoRoom(needed));
     }
     write_parts(upto, start, d);
-    Planned::Wrote(needed)
+    Ok(needed)
 }
 
 // Whether a gap fill a to b and one from next to c touch.
 fn touch(a: u32, b: u32, next: u32, c: u32) -> bool
     ensures { result ≡ touch (gap_fill a b) (gap_fill next c) }
 {
-    if b <= a {
-        return false;
-    }
-    if b != next {
-        return false;
-    }
-    next < c
+    a < b && b == next && next < c
 }
 
 // How many of the other's numbers fall away: its first pair, where the one's last touches it.
 fn seam(one: &[u32], other: &[u32]) -> usize
     ensures { result ≡ seam one.now other.now }
 {
-    let n = one.len();
-    if n < A_PAIR {
-        return 0;
-    }
-    if other.len() < A_PAIR {
-        return 0;
-    }
-    if touch(one[n - A_PAIR], one[n - 1], other[0], other[1]) {
-        A_PAIR
-    } else {
-        0
-    }
-}
-
-// All of the numbers over the first of d.
-fn lay(ns: &[u32], d: &mut [u32])
-    requires { length ns.now ≤ length d.old }
-    ensures { d.new ≡ at_front ns.now d.old }
-{
-    let mut i = 0;
-    while i < ns.len() {
-        d[i] = ns[i];
-        i += 1;
+    match (one, other) {
+        ([.., a, b], [next, c, ..]) if touch(*a, *b, *next, *c) => A_PAIR,
+        _ => 0,
     }
 }
 
@@ -221,8 +174,9 @@ fn lay_both(one: &[u32], more: &[u32], d: &mut [u32])
     requires { length one.now + length more.now ≤ length d.old }
     ensures { d.new ≡ at_front (one.now ++ more.now) d.old }
 {
-    lay(one, d);
-    lay(more, &mut d[one.len()..]);
+    let seam = one.len();
+    d[..seam].copy_from_slice(one);
+    d[seam..seam + more.len()].copy_from_slice(more);
 }
 
 // Writes the joined plan to the front of d: the two gap fills that touch become one, which leads where the other's did.
@@ -237,20 +191,20 @@ fn write_joined(one: &[u32], other: &[u32], cut: usize, d: &mut [u32])
 }
 
 // Two plans as pairs, for s to m and for m + 1 to e: the plan for s to e, at the front of d (document 02, item 12).
-pub fn join(one: &[u32], other: &[u32], d: &mut [u32]) -> Planned
+pub fn join(one: &[u32], other: &[u32], d: &mut [u32]) -> Result<usize, NotPlanned>
     ensures { (result ≡ join_of one.now other.now d.old) × (d.new ≡ joined_in one.now other.now d.old) }
 {
     if one.len() % A_PAIR != 0 {
-        return Planned::BadRequest;
+        return Err(NotPlanned::BadRequest);
     }
     if other.len() % A_PAIR != 0 {
-        return Planned::BadRequest;
+        return Err(NotPlanned::BadRequest);
     }
     let cut = seam(one, other);
     let pairs = (one.len() + (other.len() - cut)) / A_PAIR;
     if d.len() < A_PAIR * pairs {
-        return Planned::NoRoom(pairs);
+        return Err(NotPlanned::NoRoom(pairs));
     }
     write_joined(one, other, cut, d);
-    Planned::Wrote(pairs)
+    Ok(pairs)
 }

@@ -9,8 +9,6 @@ use lib.ListN.{length, get_or}
 use lib.Dec.{eqb}
 use lib.Pointwise.{pointwise}
 use denote.Enum.Bare.{sameb}
-use Rattle.fields.specs.declared.value.Value.{Value}
-use Rattle.fields.specs.declared.value.Value.TheVariants as value
 use Rattle.message.specs.declared.refusal.Refusal.{Refusal}
 use Rattle.message.specs.declared.refusal.Refusal.TheVariants as refusal
 use Rattle.session.specs.contracts.state.State.{the_type}
@@ -30,7 +28,7 @@ use Rattle.session.specs.declared.state.Send.TheVariants as send
 use Rattle.session.specs.declared.state.Session.{Session}
 use Rattle.session.specs.declared.state.State.{State}
 use Rattle.session.specs.declared.state.State.TheVariants.{Down, Waiting, Live}
-use Rattle.session.specs.Arrival.{same_bytes, up_to, is_yes}
+use Rattle.session.specs.Arrival.{same_bytes}
 use Rattle.session.specs.Day.{refused}
 use Rattle.session.specs.Rules.{waiting, higher, equal, live, numbered, ask}
 use Rattle.session.specs.State.{leave, send_none, stop, take, told}
@@ -114,25 +112,6 @@ not-true false e = refl
 pub not-false : (b : Bool) → not b ≡ false → b ≡ true
 not-false true e = refl
 not-false false e = absurd (true≢false e)
-
--- a field that holds no number
-pub up_to-none : (most : ℕ) (v : Value) → ((n : ℕ) → v ≡ value.Number n → ⊥) → up_to most v ≡ 0
-unfolding up_to
-up_to-none most (value.Number n) h = absurd (h n refl)
-up_to-none most (value.Decimal z) h = refl
-up_to-none most (value.Text n) h = refl
-up_to-none most value.Bad h = refl
-up_to-none most value.Absent h = refl
-up_to-none most value.Unknown h = refl
-
-pub is_yes-none : (v : Value) → ((n : ℕ) → v ≡ value.Number n → ⊥) → is_yes v ≡ false
-unfolding is_yes
-is_yes-none (value.Number n) h = absurd (h n refl)
-is_yes-none (value.Decimal z) h = refl
-is_yes-none (value.Text n) h = refl
-is_yes-none value.Bad h = refl
-is_yes-none value.Absent h = refl
-is_yes-none value.Unknown h = refl
 
 -- a refusal that stops the session
 pub refused-stops : (s : Session) (k : Refusal) → ((n : ℕ) → k ≡ refusal.Short n → ⊥) → ((n : ℕ) → k ≡ refusal.BadSum n → ⊥)

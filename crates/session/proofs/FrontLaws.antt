@@ -9,8 +9,7 @@ use lib.ListN.{length, get_or}
 use borrow.Author.Tests.{leb-true, leb-false, eqb-true, eqb-false, ne_eqb}
 use Rattle.tables.specs.Tables.{is_type, row_of}
 use Rattle.fields.specs.declared.check.Reason.TheVariants.{Field}
-use Rattle.fields.specs.declared.sets.Place.{Place}
-use Rattle.fields.specs.declared.sets.Place.TheVariants.{At, Nowhere}
+use Rattle.std.specs.Prelude.{Option, Some, None}
 use Rattle.fields.specs.declared.walk.Walked.{Walked}
 use Rattle.fields.specs.declared.walk.Walked.TheVariants.{Done, BadAt}
 use Rattle.fields.specs.Sets.{lowest_unknown, lowest_missing}
@@ -56,12 +55,12 @@ unfolding vet_walk number_of
 late-walk (Done left plain) = either Late (eqb left 0) (λ e. good) (λ e. refused (omega arith))
 late-walk (BadAt p Field) = refused {r = BadField p} (omega arith)
 
-late-place : (r : ℕ → Refusal) (p : Place) {v : Vetted} → ((k : ℕ) → 5 ≤ number_of (r k)) → Late v → Late (vet_place r p v)
+late-place : (r : ℕ → Refusal) (p : Option ℕ) {v : Vetted} → ((k : ℕ) → 5 ≤ number_of (r k)) → Late v → Late (vet_place r p v)
 unfolding vet_place
-late-place r (At p) h l = refused {r = r p} (h p)
-late-place r Nowhere h l = l
+late-place r (Some p) h l = refused {r = r p} (h p)
+late-place r None h l = l
 
-late-sets : (u m : Place) {v : Vetted} → Late v → Late (vet_sets u m v)
+late-sets : (u m : Option ℕ) {v : Vetted} → Late v → Late (vet_sets u m v)
 unfolding vet_sets number_of
 late-sets u m l = late-place UnknownPosition u (λ k. omega arith) (late-place MissingField m (λ k. omega arith) l)
 

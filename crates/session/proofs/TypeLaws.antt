@@ -1,4 +1,5 @@
 -- The sort of content that each message type has; a New is never past 32 bits.
+use Rattle.std.specs.Prelude.{Result, Ok, Err}
 use Prim.Native.Nat.{ℕ, suc, ◌≤◌, ◌<◌}
 use mathlib.Core.Path.{◌≡◌, refl, sym, ap, ◌∙◌}
 use mathlib.Core.Bool.{true, false, cond, true≢false}
@@ -9,6 +10,7 @@ use borrow.Author.Tests.{leb-true, eqb-true, eqb-false, ne_eqb}
 use Rattle.tables.specs.declared.dictionary.Field.TheVariants.{GapFill as GapFillField, NewSequenceNumber}
 use Rattle.fields.specs.declared.value.Value.{Value}
 use Rattle.fields.specs.declared.value.Value.TheVariants as value
+use Rattle.fields.specs.declared.value.NoValue.{NoValue}
 use Rattle.tables.specs.Tables.{row_of}
 use Rattle.fields.specs.Value.{value_of}
 use Rattle.wire.proofs.TestLaws.{either}
@@ -25,14 +27,12 @@ pub data Sorted (messagetype : ℕ) : Content → Type 0 where
   reset : {new : ℕ} → messagetype ≡ 4 → new ≤ last → Sorted messagetype (Reset new)
   business : 9 ≤ messagetype → Sorted messagetype Business
 
-pub up-to-within : (most : ℕ) (v : Value) → up_to most v ≤ most
+pub up-to-within : (most : ℕ) (v : Result Value NoValue) → up_to most v ≤ most
 unfolding up_to
-up-to-within most (value.Number n) = either (λ (x : ℕ). x ≤ most) (leb n most) (λ t. leb-true n most t) (λ t. omega arith)
-up-to-within most (value.Decimal z) = omega arith
-up-to-within most (value.Text n) = omega arith
-up-to-within most value.Bad = omega arith
-up-to-within most value.Absent = omega arith
-up-to-within most value.Unknown = omega arith
+up-to-within most (Ok (value.Number n)) = either (λ (x : ℕ). x ≤ most) (leb n most) (λ t. leb-true n most t) (λ t. omega arith)
+up-to-within most (Ok (value.Decimal z)) = omega arith
+up-to-within most (Ok (value.Text n)) = omega arith
+up-to-within most (Err why) = omega arith
 
 -- one test of a type, all lower ones being passed
 tested : (messagetype k : ℕ) {x y : Content} → k ≤ messagetype → (messagetype ≡ k → Sorted messagetype x) → (suc k ≤ messagetype → Sorted messagetype y) → Sorted messagetype (cond (eqb messagetype k) x y)

@@ -8,7 +8,7 @@ ghost use Rattle.session.specs.Turn.{is_due_header, due_length, due_taken, take_
 ghost use Rattle.session.specs.Arrival.{same_bytes, up_to, is_yes, sequence_reset, content_of, is_ours, arrival_by};
 
 use crate::state::{LAST, MOST_ID, Session, State, ahead_at};
-use fields::value::{Value, value_of};
+use fields::value::{NoValue, Value, value_of};
 use message::frame::{COMP_ID_BYTES, Header, body_in, comp_bytes_in, comp_id_in, map_in};
 use message::read::Reading;
 use message::refusal::Refusal;
@@ -68,21 +68,23 @@ fn is_same(a: &[u8], b: &[u8]) -> bool
 }
 
 // The number of a field, which its width keeps within `most`; 0 where there is none.
-fn up_to(value: Value, most: u32) -> u32
+#[tactic(auto, unfolding(crate::specs::Arrival::up_to))]
+fn up_to(value: Result<Value, NoValue>, most: u32) -> u32
     ensures { (result ≡ up_to most value) × (result ≤ most) }
 {
     match value {
-        Value::Number(n) => { if n <= most as u64 { n as u32 } else { 0 } }
+        Ok(Value::Number(n)) => { if n <= most as u64 { n as u32 } else { 0 } }
         _ => 0,
     }
 }
 
 // Whether Gap Fill is 'Y'.
-fn is_yes(value: Value) -> bool
+#[tactic(auto, unfolding(crate::specs::Arrival::is_yes))]
+fn is_yes(value: Result<Value, NoValue>) -> bool
     ensures { result ≡ is_yes value }
 {
     match value {
-        Value::Number(n) => n == GAP_FILL,
+        Ok(Value::Number(n)) => n == GAP_FILL,
         _ => false,
     }
 }

@@ -13,8 +13,6 @@
 // A line that begins with # is passed over.
 #![tactic(auto)]
 
-ghost use Rattle.std.specs.Prelude.{◌≤◌, length};
-
 use message::ask::{Asked, ask_number, ask_number_of, ask_text, text};
 use message::read::{Reading, body, comp_id, map, read};
 use message::refusal::Refusal;
@@ -22,506 +20,287 @@ use session::day::{Connected, Made};
 use session::state::{Row, Send, Session, State, Stepped};
 use spelt::put_shown;
 use std::io;
-use std::io::{Read, Stdin, Stdout};
+use std::io::Read;
 use tables::dictionary::Field;
 use tables::table::EXECUTION_REPORT;
-use wire::decimal::put_decimal;
 use wire::map::MAP_BYTES;
-use wire::number::read_u64;
 use writer::write::{Written, write};
 
-// Standard output, and how writing to it went: after the first failure nothing more is written.
-#[derive(Drop)]
-struct Out {
-    stdout: Stdout,
-    result: io::Result<()>,
+// The most bytes of input that are looked at.
+const MOST: usize = 65536;
+
+// The most bytes that a line's digits stand for: the longest message and some bytes behind it.
+const ROOM: usize = 4608;
+
+fn print_refusal(rt: &impl Print, refusal: Refusal) -> io::Result<()> {
+    print!(rt;
+        "refused {} besides {}",
+        refusal.number(),
+        refusal.besides()
+    )
 }
 
-fn say(out: &mut Out, text: &[u8]) {
-    if out.result.is_ok() {
-        out.result = out.stdout.write_all(text);
-    }
-}
-
-fn say_number(out: &mut Out, n: u64) {
-    if out.result.is_ok() {
-        out.result = out.stdout.print(n);
-    }
-}
-
-// A Decimal as its count of hundred-millionths: the upper half of the 64-bit numbers stands for the negative ones.
-fn say_signed(out: &mut Out, z: i64) {
-    let mut d = [0u8; 8];
-    put_decimal(&mut d, z);
-    let n = read_u64(&d);
-    if n < 9223372036854775808 {
-        say_number(out, n);
-    } else {
-        say(out, b"-");
-        say_number(out, 18446744073709551615 - n + 1);
-    }
-}
-
-fn say_refusal(out: &mut Out, refusal: Refusal) {
-    say(out, b"refused ");
-    say_number(out, refusal.number() as u64);
-    say(out, b" besides ");
-    say_number(out, refusal.besides() as u64);
-}
-
-fn say_asked(out: &mut Out, asked: Asked) {
+// A Decimal is shown as its count of hundred-millionths.
+fn print_asked(rt: &impl Print, asked: Asked) -> io::Result<()> {
     match asked {
-        Asked::Number(n) => {
-            say(out, b"number ");
-            say_number(out, n);
-        }
-        Asked::Decimal(z) => {
-            say(out, b"decimal ");
-            say_signed(out, z);
-        }
-        Asked::Text(n) => {
-            say(out, b"text of ");
-            say_number(out, n as u64);
-        }
-        Asked::Refused(refusal) => say_refusal(out, refusal),
+        Asked::Number(n) => print!(rt; "number {n}"),
+        Asked::Decimal(z) => print!(rt; "decimal {z}"),
+        Asked::Text(n) => print!(rt; "text of {n}"),
+        Asked::Refused(refusal) => print_refusal(rt, refusal),
     }
 }
 
-fn say_reading(out: &mut Out, s: &[u8]) {
+fn print_shares(rt: &impl Print, s: &[u8]) -> io::Result<()> {
+    rt.print(" filled ")?;
+    print_asked(rt, ask_number_of(s, Field::CumulativeQuantity))?;
+    rt.print(" open ")?;
+    print_asked(rt, ask_number_of(s, Field::LeavesQuantity))
+}
+
+// The message at the front of s, as the reader gives it.
+fn print_reading(rt: &impl Print, s: &[u8]) -> io::Result<()> {
     match read(s) {
         Reading::Good { header, length } => {
-            say(out, b"type ");
-            say_number(out, header.messagetype as u64);
-            say(out, b" number ");
-            say_number(out, header.number as u64);
-            say(out, b" possdup ");
-            say_number(out, header.possdup as u64);
-            say(out, b" possresend ");
-            say_number(out, header.possresend as u64);
-            say(out, b" length ");
-            say_number(out, length as u64);
-            say(out, b" comp ");
-            say(out, comp_id(s));
-            if header.messagetype == EXECUTION_REPORT {
-                say_shares(out, s);
+            let messagetype = header.messagetype;
+            print!(rt; "type {messagetype} number {}", header.number)?;
+            print!(rt;
+                " possdup {} possresend {}",
+                header.possdup, header.possresend
+            )?;
+            print!(rt; " length {length} comp ")?;
+            rt.write_all(comp_id(s))?;
+            if messagetype == EXECUTION_REPORT {
+                print_shares(rt, s)?;
             }
+            Ok(())
         }
-        Reading::Refused(refusal) => say_refusal(out, refusal),
+        Reading::Refused(refusal) => print_refusal(rt, refusal),
     }
-}
-
-fn say_shares(out: &mut Out, s: &[u8]) {
-    say(out, b" filled ");
-    say_asked(out, ask_number_of(s, Field::CumulativeQuantity));
-    say(out, b" open ");
-    say_asked(out, ask_number_of(s, Field::LeavesQuantity));
-}
-
-fn say_text(out: &mut Out, s: &[u8], p: usize) {
-    say_asked(out, ask_text(s, p));
-    say(out, b" [");
-    say_shown(out, text(s, p));
-    say(out, b"]");
-}
-
-fn say_character(out: &mut Out, b: u8) {
-    let mut shown = [0u8; 4];
-    let laid = put_shown(&mut shown, b);
-    say(out, front(&shown, laid.besides()));
 }
 
 // A text's characters, each as a terminal shows it safely.
-fn say_shown(out: &mut Out, text: &[u8]) {
-    let mut i = 0;
-    while i < text.len() {
-        say_character(out, text[i]);
-        i += 1;
+fn print_shown(rt: &impl Print, text: &[u8]) -> io::Result<()> {
+    for b in text {
+        let mut shown = [0u8; 4];
+        let laid = put_shown(&mut shown, *b);
+        rt.write_all(shown.get(..laid.besides()).unwrap_or(&shown))?;
+    }
+    Ok(())
+}
+
+fn print_text(rt: &impl Print, s: &[u8], position: usize) -> io::Result<()> {
+    print_asked(rt, ask_text(s, position))?;
+    rt.print(" [")?;
+    print_shown(rt, text(s, position))?;
+    rt.print("]")
+}
+
+fn print_hex(rt: &impl Print, s: &[u8]) -> io::Result<()> {
+    for b in s {
+        print!(rt; "{b:02x}")?;
+    }
+    Ok(())
+}
+
+// The message at the front of s, read and written again.
+fn print_plain(rt: &impl Print, s: &[u8]) -> io::Result<()> {
+    match read(s) {
+        Reading::Good { header, length: _ } => {
+            let mut d = [0u8; 4096];
+            let none = [0u8; MAP_BYTES];
+            let map = map(s).first_chunk().unwrap_or(&none);
+            match write(&mut d, header, comp_id(s), map, body(s)) {
+                Written::Wrote(n) => print_hex(rt, d.get(..n).unwrap_or(&d)),
+                Written::Refused(refusal) => print_refusal(rt, refusal),
+            }
+        }
+        Reading::Refused(refusal) => print_refusal(rt, refusal),
     }
 }
 
-// The value of a hexadecimal digit, and 16 where it is none.
-fn digit(c: u8) -> u8 {
-    match c {
-        b'0'..=b'9' => c - b'0',
-        b'a'..=b'f' => c - b'a' + 10,
-        _ => 16,
+// The value of a hexadecimal digit.
+fn digit(b: u8) -> Option<u8> {
+    match b {
+        b'0'..=b'9' => Some(b - b'0'),
+        b'a'..=b'f' => Some(b - b'a' + 10),
+        _ => None,
     }
 }
 
-// Bytes, of which the first `count` are meant: room for the longest message and some bytes behind it.
-#[derive(Clone, Copy)]
-struct Bytes {
-    all: [u8; 4608],
-    count: usize,
-}
-
-// The bytes that hexadecimal digits stand for.
-fn decode(line: &[u8]) -> Bytes {
-    let mut all = [0u8; 4608];
-    let mut i = 0;
-    let mut count: usize = 0;
-    while i < line.len() {
-        let high = digit(line[i]);
-        i += 1;
-        if line.len() <= i {
+// The bytes that hexadecimal digits stand for, up to what is no pair of digits.
+fn decode(rt: &impl AllocGlobal, digits: &[u8]) -> io::Result<Vec<u8>> {
+    let mut bytes = Vec::new(rt.alloc());
+    for pair in digits.chunks_exact(2).take(ROOM) {
+        let (Some(high), Some(low)) = (digit(pair[0]), digit(pair[1])) else {
             break;
-        }
-        let low = digit(line[i]);
-        i += 1;
-        if 15 < high {
-            break;
-        }
-        if 15 < low {
-            break;
-        }
-        if 4608 <= count {
-            break;
-        }
-        all[count] = high * 16 + low;
-        count += 1;
+        };
+        bytes.push(high << 4 | low)?;
     }
-    Bytes { all, count }
+    Ok(bytes)
 }
 
-fn front(s: &[u8], n: usize) -> &[u8] {
-    if n <= s.len() { &s[..n] } else { s }
-}
-
-fn from(s: &[u8], n: usize) -> &[u8] {
-    if n <= s.len() { &s[n..] } else { s }
-}
-
-// How many bytes stand before the first c, or all.
-fn before(s: &[u8], c: u8) -> usize {
-    let mut i = 0;
-    while i < s.len() {
-        if s[i] == c {
-            return i;
-        }
-        i += 1;
+// The word at the front, and what stands behind the space that ends it.
+fn cut(words: &[u8]) -> (&[u8], &[u8]) {
+    match words.iter().position(|b| *b == b' ') {
+        Some(n) => (&words[..n], &words[n + 1..]),
+        None => (words, b""),
     }
-    i
 }
 
 // A number of at most ten decimal digits.
-fn number(s: &[u8]) -> u64 {
+fn number(word: &[u8]) -> u64 {
     let mut n: u64 = 0;
-    let mut i = 0;
-    while i < s.len() {
-        let d = digit(s[i]);
-        if 9 < d {
-            return n;
+    for b in word {
+        if !b.is_ascii_digit() || 999999999 < n {
+            break;
         }
-        if 999999999 < n {
-            return n;
-        }
-        n = n * 10 + d as u64;
-        i += 1;
+        n = n * 10 + (*b - b'0') as u64;
     }
     n
 }
 
 // The same, which the worked lines keep within 32 bits.
-fn small(s: &[u8]) -> u32 {
-    (number(s) % 4294967296) as u32
+fn small(word: &[u8]) -> u32 {
+    (number(word) & 0xFFFFFFFF) as u32
 }
 
-fn run_read(out: &mut Out, words: &[u8]) {
-    let b = decode(words);
-    let n = b.count;
-    let all = b.all;
-    say_reading(out, front(&all, n));
-}
-
-fn say_byte(out: &mut Out, b: u8) {
-    if out.result.is_ok() {
-        out.result = out.stdout.print(format_args!("{b:02x}"));
-    }
-}
-
-fn say_hex(out: &mut Out, s: &[u8]) {
-    let mut i = 0;
-    while i < s.len() {
-        say_byte(out, s[i]);
-        i += 1;
-    }
-}
-
-// The first thirty-two bytes of s, with zeros for those that are not there.
-fn map_bytes(s: &[u8]) -> [u8; MAP_BYTES] {
-    let mut m = [0u8; MAP_BYTES];
-    let mut i: usize = 0;
-    while i < 32 {
-        if s.len() <= i {
-            break;
-        }
-        m[i] = s[i];
-        i += 1;
-    }
-    m
-}
-
-// The message at the front of s, read and written again.
-fn say_plain(out: &mut Out, s: &[u8]) {
-    match read(s) {
-        Reading::Good { header, length: _ } => {
-            let mut d = [0u8; 4096];
-            let m = map_bytes(map(s));
-            match write(&mut d, header, comp_id(s), &m, body(s)) {
-                Written::Wrote(n) => say_hex(out, front(&d, n)),
-                Written::Refused(refusal) => say_refusal(out, refusal),
-            }
-        }
-        Reading::Refused(refusal) => say_refusal(out, refusal),
-    }
-}
-
-fn run_plain(out: &mut Out, words: &[u8]) {
-    let b = decode(words);
-    let n = b.count;
-    let all = b.all;
-    say_plain(out, front(&all, n));
-}
-
-fn run_number(out: &mut Out, words: &[u8]) {
-    let j = before(words, b' ');
-    let b = decode(from(from(words, j), 1));
-    let n = b.count;
-    let all = b.all;
-    say_asked(
-        out,
-        ask_number(front(&all, n), number(front(words, j)) as usize),
-    );
-}
-
-fn run_text(out: &mut Out, words: &[u8]) {
-    let j = before(words, b' ');
-    let b = decode(from(from(words, j), 1));
-    let n = b.count;
-    let all = b.all;
-    say_text(out, front(&all, n), number(front(words, j)) as usize);
-}
-
-fn say_send(out: &mut Out, send: Send) {
+fn print_send(rt: &impl Print, send: Send) -> io::Result<()> {
     match send {
-        Send::Nothing => say(out, b"none"),
-        Send::Heartbeat(n, id) => {
-            say(out, b"heartbeat ");
-            say_pair(out, n, id as u32);
-        }
-        Send::Logout(n) => {
-            say(out, b"logout ");
-            say_number(out, n as u64);
-        }
-        Send::GapFill(n, new) => {
-            say(out, b"fill ");
-            say_pair(out, n, new);
-        }
-        Send::ResendRequest(n, start, end) => {
-            say(out, b"resend ");
-            say_number(out, n as u64);
-            say(out, b" ");
-            say_pair(out, start, end);
-        }
+        Send::Nothing => rt.print("none"),
+        Send::Heartbeat(n, id) => print!(rt; "heartbeat {n} {id}"),
+        Send::Logout(n) => print!(rt; "logout {n}"),
+        Send::GapFill(n, new) => print!(rt; "fill {n} {new}"),
+        Send::ResendRequest(n, start, end) => print!(rt; "resend {n} {start} {end}"),
     }
 }
 
-fn say_pair(out: &mut Out, a: u32, b: u32) {
-    say_number(out, a as u64);
-    say(out, b" ");
-    say_number(out, b as u64);
-}
-
-fn say_row(out: &mut Out, row: Row) {
+fn print_row(rt: &impl Print, row: Row) -> io::Result<()> {
     match row {
-        Row::Nothing => say(out, b"none"),
-        Row::Business(n) => {
-            say(out, b"business ");
-            say_pair(out, n, n);
-        }
-        Row::Session(n) => {
-            say(out, b"session ");
-            say_pair(out, n, n);
-        }
-        Row::Filled(first, last) => {
-            say(out, b"filled ");
-            say_pair(out, first, last);
-        }
-        Row::Reset(first, last) => {
-            say(out, b"reset ");
-            say_pair(out, first, last);
-        }
-    }
-}
-
-fn say_state(out: &mut Out, state: State) {
-    match state {
-        State::Down => say(out, b"Down "),
-        State::Waiting => say(out, b"Waiting "),
-        State::Live => say(out, b"Live "),
+        Row::Nothing => rt.print("none"),
+        Row::Business(n) => print!(rt; "business {n} {n}"),
+        Row::Session(n) => print!(rt; "session {n} {n}"),
+        Row::Filled(first, last) => print!(rt; "filled {first} {last}"),
+        Row::Reset(first, last) => print!(rt; "reset {first} {last}"),
     }
 }
 
 // The state, E, O, M and how often it was asked again from this E.
-fn say_session(out: &mut Out, s: Session) {
-    say_state(out, s.state());
-    say_pair(out, s.expected(), s.own());
-    say(out, b" ");
-    say_pair(out, s.ahead(), s.repeats());
-}
-
-fn made(out: &mut Out, m: Made) -> Session {
-    let s = m.session;
-    say(out, b"code ");
-    let code = m.code;
-    say_number(out, code.number() as u64);
-    say(out, b": ");
-    say_session(out, s);
-    s
-}
-
-fn connected(out: &mut Out, c: Connected) -> Session {
-    let s = c.session;
-    say(out, b"code ");
-    let code = c.code;
-    say_number(out, code.number() as u64);
-    say(out, b" logon ");
-    say_pair(out, c.number, c.next);
-    say(out, b": ");
-    say_session(out, s);
-    s
-}
-
-fn stepped(out: &mut Out, t: Stepped) -> Session {
-    let s = t.session;
-    let answer = t.answer;
-    let first = answer.first;
-    let second = answer.second;
-    let row = answer.row;
-    say(out, b"code ");
-    let code = answer.code;
-    say_number(out, code.number() as u64);
-    say(out, b" send ");
-    say_send(out, first);
-    say(out, b", ");
-    say_send(out, second);
-    say(out, b" row ");
-    say_row(out, row);
-    say(out, b": ");
-    say_session(out, s);
-    s
-}
-
-fn dropped(out: &mut Out, s: Session) -> Session {
-    let down = s.drop();
-    say_session(out, down);
-    down
-}
-
-fn run_saved(out: &mut Out, words: &[u8]) -> Session {
-    let j = before(words, b' ');
-    let rest = from(from(words, j), 1);
-    let k = before(rest, b' ');
-    made(
-        out,
-        Session::saved(
-            from(from(rest, k), 1),
-            small(front(words, j)),
-            small(front(rest, k)),
-        ),
+fn print_session(rt: &impl Print, s: Session) -> io::Result<()> {
+    let state = match s.state() {
+        State::Down => "Down",
+        State::Waiting => "Waiting",
+        State::Live => "Live",
+    };
+    print!(rt;
+        "{state} {} {} {} {}",
+        s.expected(),
+        s.own(),
+        s.ahead(),
+        s.repeats()
     )
 }
 
-fn run_step(out: &mut Out, s: Session, words: &[u8]) -> Session {
-    let b = decode(words);
-    let n = b.count;
-    let all = b.all;
-    stepped(out, s.step(front(&all, n)))
+fn made(rt: &impl Print, made: Made) -> io::Result<Session> {
+    print!(rt; "code {}: ", made.code.number())?;
+    print_session(rt, made.session)?;
+    Ok(made.session)
 }
 
-fn read_line(out: &mut Out, s: Session, words: &[u8]) -> Session {
-    run_read(out, words);
-    s
+fn connected(rt: &impl Print, connected: Connected) -> io::Result<Session> {
+    let code = connected.code;
+    print!(rt;
+        "code {} logon {} {}: ",
+        code.number(),
+        connected.number,
+        connected.next
+    )?;
+    print_session(rt, connected.session)?;
+    Ok(connected.session)
 }
 
-fn plain_line(out: &mut Out, s: Session, words: &[u8]) -> Session {
-    run_plain(out, words);
-    s
+fn stepped(rt: &impl Print, stepped: Stepped) -> io::Result<Session> {
+    let answer = stepped.answer;
+    print!(rt; "code {} send ", answer.code.number())?;
+    print_send(rt, answer.first)?;
+    rt.print(", ")?;
+    print_send(rt, answer.second)?;
+    rt.print(" row ")?;
+    print_row(rt, answer.row)?;
+    rt.print(": ")?;
+    print_session(rt, stepped.session)?;
+    Ok(stepped.session)
 }
 
-fn number_line(out: &mut Out, s: Session, words: &[u8]) -> Session {
-    run_number(out, words);
-    s
+fn dropped(rt: &impl Print, s: Session) -> io::Result<Session> {
+    let down = s.drop();
+    print_session(rt, down)?;
+    Ok(down)
 }
 
-fn text_line(out: &mut Out, s: Session, words: &[u8]) -> Session {
-    run_text(out, words);
-    s
+fn saved(rt: &impl Print, words: &[u8]) -> io::Result<Session> {
+    let (expected, words) = cut(words);
+    let (own, comp) = cut(words);
+    made(rt, Session::saved(comp, small(expected), small(own)))
+}
+
+// A question about the message whose bytes stand in the words, or about one position of it.
+fn ask(rt: &(impl Print + AllocGlobal), letter: u8, words: &[u8]) -> io::Result<()> {
+    match letter {
+        b'r' => print_reading(rt, decode(rt, words)?.as_slice()),
+        b'p' => print_plain(rt, decode(rt, words)?.as_slice()),
+        b'n' => {
+            let (position, digits) = cut(words);
+            let message = decode(rt, digits)?;
+            print_asked(
+                rt,
+                ask_number(message.as_slice(), number(position) as usize),
+            )
+        }
+        b't' => {
+            let (position, digits) = cut(words);
+            print_text(
+                rt,
+                decode(rt, digits)?.as_slice(),
+                number(position) as usize,
+            )
+        }
+        _ => Ok(()),
+    }
 }
 
 // One line, without its end, by its first letter: a word, and what goes with it. The session after it.
-fn run(out: &mut Out, s: Session, line: &[u8]) -> Session {
-    if line.len() == 0 {
-        return s;
-    }
-    let word = line[0];
-    if word == b'#' {
-        return s;
-    }
-    let words = from(from(line, before(line, b' ')), 1);
-    let next = match word {
-        b'r' => read_line(out, s, words),
-        b'p' => plain_line(out, s, words),
-        b'n' => number_line(out, s, words),
-        b't' => text_line(out, s, words),
-        b'f' => made(out, Session::fresh(words)),
-        b's' => run_saved(out, words),
-        b'c' => connected(out, s.connect(words)),
-        b'd' => dropped(out, s),
-        b'u' => run_step(out, s, words),
-        _ => s,
+fn run(rt: &(impl Print + AllocGlobal), s: Session, line: &[u8]) -> io::Result<Session> {
+    let letter = match line.first() {
+        None | Some(b'#') => return Ok(s),
+        Some(letter) => *letter,
     };
-    say(out, b"\n");
-    next
+    let (_, words) = cut(line);
+    let next = match letter {
+        b'f' => made(rt, Session::fresh(words))?,
+        b's' => saved(rt, words)?,
+        b'c' => connected(rt, s.connect(words))?,
+        b'd' => dropped(rt, s)?,
+        b'u' => stepped(rt, s.step(decode(rt, words)?.as_slice()))?,
+        _ => {
+            ask(rt, letter, words)?;
+            s
+        }
+    };
+    rt.print("\n")?;
+    Ok(next)
 }
 
-fn run_lines(out: &mut Out, input: &[u8]) {
-    let first = Session::fresh(b"");
-    let mut s = first.session;
-    let mut rest = input;
-    while 0 < rest.len() {
-        let k = before(rest, b'\n');
-        s = run(out, s, front(rest, k));
-        if rest.len() <= k {
-            return;
-        }
-        let next = k + 1;
-        rest = &rest[next..];
+fn run_lines(rt: &(impl Print + AllocGlobal), input: &[u8]) -> io::Result<()> {
+    let mut session = Session::fresh(b"").session;
+    for line in input.split(|b| *b == b'\n') {
+        session = run(rt, session, line)?;
     }
-}
-
-// Reads until d is full, the input ends or a read fails; how many bytes were read.
-fn fill(mut stdin: Stdin, d: &mut [u8]) -> usize
-    ensures { result ≤ length d.new }
-{
-    let mut done = 0;
-    while done < d.len() {
-        match stdin.read(&mut d[done..]) {
-            Ok(0) => break,
-            Ok(n) => done += n,
-            Err(_) => break,
-        }
-    }
-    done
+    Ok(())
 }
 
 fn main(rt: HostRuntime) -> io::Result<()> {
-    let mut input = [0u8; 65536];
-    let got = fill(rt.stdin(), &mut input);
-    let mut out = Out {
-        stdout: rt.stdout(),
-        result: Ok(()),
-    };
-    run_lines(&mut out, front(&input, got));
-    out.result
+    // With room for a byte more no other room is made, so that a read alone can fail. What came before it is run all the same.
+    let mut input = Vec::with_capacity(rt.alloc(), MOST + 1)?;
+    let _ = rt.stdin().take(MOST as u64).read_to_end(&mut input);
+    run_lines(&rt, input.as_slice())
 }

@@ -25,7 +25,7 @@ use Rattle.wire.specs.Text.{takes, fixed_bytes}
 use Rattle.wire.proofs.MapLaws.{no-bit}
 use Rattle.wire.proofs.NumberLaws.{length-number_bytes}
 use Rattle.wire.proofs.TextLaws.{fixed-again, taken, length-fixed_bytes}
-use Rattle.fields.specs.declared.sets.Place.TheVariants.{Nowhere}
+use Rattle.std.specs.Prelude.{None}
 use Rattle.fields.specs.declared.walk.Walked.TheVariants.{Done}
 use Rattle.tables.specs.declared.table.Row.{Row}
 use Rattle.fields.specs.declared.check.Checked.TheVariants.{Good}
@@ -68,8 +68,8 @@ pub record Complete (x : Outgoing) (b plain : ℕ) : Type 0 where
   pub possdup : x.head.possdup ≤ 1
   pub possresend : x.head.possresend ≤ 1
   pub map : x.map ≡ map_of b
-  pub known : lowest_unknown (row_of x.head.messagetype) (map_of b) ≡ Nowhere
-  pub filled : lowest_missing (row_of x.head.messagetype) (map_of b) ≡ Nowhere
+  pub known : lowest_unknown (row_of x.head.messagetype) (map_of b) ≡ None
+  pub filled : lowest_missing (row_of x.head.messagetype) (map_of b) ≡ None
   pub walked : walk_from (row_of x.head.messagetype) (positions (map_of b) 8 0) 0 x.body ≡ Done 0 plain
 
 module _ {x : Outgoing} {b plain : ℕ} (c : Complete x b plain) where

@@ -3,6 +3,7 @@ use mathlib.Core.Path.{sym, ◌∙◌}
 use native.Mathlib.Omega.{arith}
 use Rattle.session.proofs.FrontLaws.{front-good, front-refused, front-most}
 use Rattle.session.proofs.StepLaws.{front-within}
+use Rattle.calls.proofs.CodeLaws.{low_refusal}
 use Rattle.calls.proofs.used_by.Goals as goal
 
 pub returns-in-Good : goal.returns-in-Good
@@ -11,13 +12,13 @@ returns-in-Good c =
     let g = front-good s _ _ (sym c.requires ∙ c.in-Good.is) in
     (sym g, omega (arith, g, front-within s), omega (arith, g, front-most s))
 
-pub returns-then-number-lt-BAD_SUM : goal.returns-then-number-lt-BAD_SUM
-returns-then-number-lt-BAD_SUM c =
+pub returns-in-Short : goal.returns-in-Short
+returns-in-Short c =
     let s = c.args.s.now in
-    let g = front-refused s _ (omega (arith, c.number.ensures, c.if-number-lt-BAD_SUM.true)) (sym c.requires ∙ c.in-Refused.is) in
+    let g = front-refused s _ (omega (arith, low_refusal c.in-Refused.refusal c.in-Short.is)) (sym c.requires ∙ c.in-Refused.is) in
     (sym g, omega arith, omega arith)
 
-pub returns-else-number-lt-BAD_SUM : goal.returns-else-number-lt-BAD_SUM
-returns-else-number-lt-BAD_SUM c =
+pub returns-in_default : goal.returns-in_default
+returns-in_default c =
     let s = c.args.s.now in
     (c.front_length.ensures, omega (arith, c.front_length.ensures, front-within s), omega (arith, c.front_length.ensures, front-most s))

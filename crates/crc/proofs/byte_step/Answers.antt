@@ -1,22 +1,22 @@
-use Rattle.std.proofs.Common.{◌≡◌, ℕ, suc, ◌-◌, refl, ap, ◌∙◌, rules, arith}
+use Rattle.std.proofs.Common.{◌≡◌, ℕ, suc, ◌+◌, ◌-◌, refl, ap, ◌∙◌, arith}
 use Rattle.rows.specs.Steps.{steps}
 use Rattle.crc.specs.Register.{byte_step}
 use Rattle.crc.proofs.byte_step.Goals as goal
 
-pub loop-left-init : goal.loop-left-init
+pub loop-init : goal.loop-init
 unfolding byte_step
-loop-left-init c = (search rules, refl)
+loop-init c = refl
 
-pub loop-left-preserved : goal.loop-left-preserved
+pub loop-preserved : goal.loop-preserved
 unfolding steps
-loop-left-preserved c =
-    let l = c.loop-left in
-    let n = l.left in
-    let e : suc (n - 1) ≡ n = omega arith in
-    (omega arith, ap (steps (n - 1)) c.bit_step-x.ensures ∙ ap (λ (m : ℕ). steps m l.x) e ∙ l.invariant.1)
+loop-preserved c =
+    let l = c.loop in
+    let left = 8 - (l.counter + 1) in
+    let e : suc left ≡ 8 - l.counter = omega arith in
+    ap (steps left) c.bit_step-x.ensures ∙ ap (λ (n : ℕ). steps n l.x) e ∙ l.invariant
 
 pub returns : goal.returns
 unfolding steps
 returns c =
-    let e : c.loop-left.left ≡ 0 = omega arith in
-    rw e at c.loop-left.invariant.1
+    let e : 8 - c.loop.counter ≡ 0 = omega arith in
+    rw e at c.loop.invariant

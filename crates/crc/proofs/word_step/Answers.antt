@@ -1,11 +1,27 @@
--- `crc::word_step` meets its contract: each byte of the number apart.
-use Rattle.std.proofs.Common.{sym, ap₂, ◌∙◌}
-use Rattle.std.specs.Int.Bits.{bit_xor}
-use Rattle.crc.proofs.Linear.{word-steps}
+-- `crc::word_step` meets its contract: the four bytes of the register, and the four that are looked up by themselves.
+use Rattle.std.proofs.Common.{bit_xor, rules, sym, ap, subst, ◌∙◌}
+use Rattle.std.proofs.NetLemmas.Arrays.{eight_items}
+use Rattle.std.proofs.lemmas.Nat.{xor_of_32}
+use Rattle.wire.specs.Number.{Bytes}
+use Rattle.crc.specs.Register.{register}
+use Rattle.crc.proofs.Linear.{register-word}
 use Rattle.crc.proofs.word_step.Goals as goal
 
 pub returns : goal.returns
 returns c =
-    ap₂ bit_xor c.entry7.ensures (ap₂ bit_xor c.entry6.ensures (ap₂ bit_xor c.entry5.ensures (ap₂ bit_xor c.entry4.ensures
-    (ap₂ bit_xor c.entry3.ensures (ap₂ bit_xor c.entry2.ensures (ap₂ bit_xor c.entry1.ensures c.entry0.ensures))))))
-    ∙ sym (word-steps c.args.x c.ranges.x.fits)
+    let s = c.args.s.now in
+    let items = eight_items s c.told-s in
+    let bytes : Bytes s = search rules in
+    rw (
+      c.entry.ensures,
+      c.entry-2.ensures,
+      c.entry-3.ensures,
+      c.entry-4.ensures,
+      c.entry-5.ensures,
+      c.entry-6.ensures,
+      c.entry-7.ensures,
+      c.entry-8.ensures,
+      c.to_le_bytes.ensures,
+    )
+    (sym (ap (register c.args.c) items
+    ∙ register-word c.args.c _ _ _ _ _ _ _ _ _ (subst Bytes items bytes) (xor_of_32 _ _ c.ranges.c.fits (search rules)) (ap (bit_xor c.args.c) c.from_le_bytes.ensures)))

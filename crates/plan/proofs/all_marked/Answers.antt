@@ -1,20 +1,12 @@
-use mathlib.Core.Path.{refl, sym, ◌∙◌}
-use native.Mathlib.Omega.{arith}
+-- `plan::all_marked` meets its contract: the marks are all 0 or 1, or one is more.
+use Prim.Native.Nat.{◌<◌, ◌≤◌}
 use borrow.Author.Rules.{rules}
-use Rattle.plan.proofs.PlanLaws.{mark-bad, mark-good, marks-end}
+use borrow.Author.Tests.{tests}
+use Rattle.std.proofs.lemmas.Iterator.{cases_from_all, YieldsList-from_slice}
+use Rattle.plan.proofs.PlanLaws.{marks-told}
 use Rattle.plan.proofs.all_marked.Goals as goal
-
-pub loop-i-init : goal.loop-i-init
-loop-i-init c = (search rules, refl)
-
-pub returns-then-list-i-gt1 : goal.returns-then-list-i-gt1
-returns-then-list-i-gt1 c =
-    sym (c.loop-i.invariant.1 ∙ mark-bad c.args.list.now c.loop-i.i (omega arith) (omega arith))
-
-pub loop-i-preserved : goal.loop-i-preserved
-loop-i-preserved c =
-    (omega arith, c.loop-i.invariant.1 ∙ mark-good c.args.list.now c.loop-i.i (omega arith) (omega arith))
 
 pub returns : goal.returns
 returns c =
-    sym (c.loop-i.invariant.1 ∙ marks-end c.args.list.now c.loop-i.i (omega arith))
+    marks-told c.args.list.now c.all.result
+    (cases_from_all _ _ _ (λ b. b ≤ 1) (λ b. 1 < b) c.all.ensures.ran (YieldsList-from_slice c.args.list.now cc) (λ x q k. search (rules, tests)) (λ x q k. search (rules, tests)))

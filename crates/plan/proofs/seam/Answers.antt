@@ -1,23 +1,21 @@
 -- `plan::seam` meets its contract: two plans that have each a pair, and whether the pairs touch.
-use mathlib.Core.Path.{sym, ◌∙◌}
-use borrow.Author.Tests.{le-ltb, lt-ltb}
+use native.Mathlib.Omega.{arith}
+use Rattle.std.proofs.lemmas.Grind.{common_steps}
 use Rattle.plan.specs.Join.{seam}
 use Rattle.plan.proofs.seam.Goals as goal
 
-pub returns-then-n-lt-A_PAIR : goal.returns-then-n-lt-A_PAIR
+pub returns-in-len2-up-len2-up : goal.returns-in-len2-up-len2-up
 unfolding seam
-returns-then-n-lt-A_PAIR c = rw (lt-ltb _ _ c.if-n-lt-A_PAIR.true)
+returns-in-len2-up-len2-up c = grind (arith, common_steps)
 
-pub returns-then-other-lt-A_PAIR : goal.returns-then-other-lt-A_PAIR
+pub returns-in_default : goal.returns-in_default
 unfolding seam
-returns-then-other-lt-A_PAIR c = rw (le-ltb _ _ c.if-n-lt-A_PAIR.false, lt-ltb _ _ c.if-other-lt-A_PAIR.true)
+returns-in_default c = grind (arith, common_steps)
 
-pub returns-then-touch : goal.returns-then-touch
+pub returns-in_default-2 : goal.returns-in_default-2
 unfolding seam
-returns-then-touch c =
-    rw (le-ltb _ _ c.if-n-lt-A_PAIR.false, le-ltb _ _ c.if-other-lt-A_PAIR.false, sym c.touch.ensures ∙ c.if-touch.true)
+returns-in_default-2 c = grind (arith, common_steps)
 
-pub returns-else-touch : goal.returns-else-touch
+pub returns-in_default-3 : goal.returns-in_default-3
 unfolding seam
-returns-else-touch c =
-    rw (le-ltb _ _ c.if-n-lt-A_PAIR.false, le-ltb _ _ c.if-other-lt-A_PAIR.false, sym c.touch.ensures ∙ c.if-touch.false)
+returns-in_default-3 c = grind (arith, common_steps)

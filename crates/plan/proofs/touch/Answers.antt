@@ -1,16 +1,13 @@
 -- `plan::touch` meets its contract: a below b, b the other's first, and that below c.
-use borrow.Author.Tests.{eq-eqb, ne_eqb, le-ltb, lt-ltb}
+use native.Mathlib.Omega.{arith}
+use Rattle.std.proofs.lemmas.Grind.{common_steps}
 use Rattle.plan.specs.Join.{touch}
 use Rattle.plan.proofs.touch.Goals as goal
 
-pub returns-then-b-a : goal.returns-then-b-a
-unfolding touch
-returns-then-b-a c = rw (le-ltb _ _ c.if-b-a.true)
-
 pub returns-then-b-next : goal.returns-then-b-next
 unfolding touch
-returns-then-b-next c = rw (lt-ltb _ _ c.if-b-a.false, ne_eqb _ _ c.if-b-next.true)
+returns-then-b-next c = grind (arith, common_steps)
 
-pub returns : goal.returns
+pub returns-else-b-next : goal.returns-else-b-next
 unfolding touch
-returns c = rw (lt-ltb _ _ c.if-b-a.false, eq-eqb _ _ c.if-b-next.false)
+returns-else-b-next c = grind (arith, common_steps)

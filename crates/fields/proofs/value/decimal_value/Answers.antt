@@ -3,6 +3,8 @@ use Rattle.std.proofs.Common.{w64}
 use mathlib.Core.Path.{ap, ◌∙◌}
 use mir.Facts.{to_z-of_z}
 use borrow.Author.Tests.{le-leb, lt-leb}
+use lib.IntN.{ℤ}
+use Rattle.std.specs.Prelude.{Ok}
 use Rattle.fields.specs.declared.value.Value.TheVariants.{Decimal}
 use Rattle.fields.specs.Value.{decimal_value}
 use borrow.Author.Rules.{rules}
@@ -15,4 +17,4 @@ returns-then-s-lt8 c = simp (lt-leb _ _ c.if-s-lt8.true)
 pub returns : goal.returns
 unfolding decimal_value
 returns c =
-    ap Decimal (to_z-of_z {w = w64} (record { sfits = search rules }) ∙ c.read_decimal.ensures) ∙ simp (le-leb _ _ c.if-s-lt8.false)
+    ap (λ (z : ℤ). Ok (Decimal z)) (to_z-of_z {w = w64} (record { sfits = search rules }) ∙ c.read_decimal.ensures) ∙ simp (le-leb _ _ c.if-s-lt8.false)

@@ -4,15 +4,15 @@ use borrow.Author.Tests.{eq-eqb, ne_eqb}
 use Rattle.message.specs.Vet.{vet_fields, vet_sets, vet_place, vet_walk}
 use Rattle.message.proofs.vet.vet_fields.Goals as goal
 
-pub returns-in-At : goal.returns-in-At
+pub returns-in-Some : goal.returns-in-Some
 unfolding vet_fields vet_sets vet_place vet_walk
-returns-in-At c =
-    simp (sym c.lowest_unknown.ensures ∙ c.in-At.is)
+returns-in-Some c =
+    simp (sym c.lowest_unknown.ensures ∙ c.in-Some.is)
 
-pub returns-in-At-lowest_missing : goal.returns-in-At-lowest_missing
+pub returns-in-Some-lowest_missing : goal.returns-in-Some-lowest_missing
 unfolding vet_fields vet_sets vet_place vet_walk
-returns-in-At-lowest_missing c =
-    simp (sym c.lowest_unknown.ensures ∙ c.in_default.is, sym c.lowest_missing.ensures ∙ c.in-At-lowest_missing.is)
+returns-in-Some-lowest_missing c =
+    simp (sym c.lowest_unknown.ensures ∙ c.in_default.is, sym c.lowest_missing.ensures ∙ c.in-Some-lowest_missing.is)
 
 pub returns-then-left-eq0 : goal.returns-then-left-eq0
 unfolding vet_fields vet_sets vet_place vet_walk
