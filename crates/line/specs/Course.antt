@@ -1,7 +1,7 @@
 -- What the laws of a line speak of (document 02, item 2); `proofs/` has the laws, and `demands` those of demand 3.
-use Rattle.std.specs.Prelude.{ℕ, zero, suc, ◌+◌, ◌*◌, ◌<◌, ◌≤◌, Bool, true, false, ◌≡◌, List, [], ◌∷◌, ◌++◌, ◌⊎◌, drop}
+use Rattle.std.specs.Prelude.{ℕ, zero, suc, ◌+◌, ◌*◌, ◌<◌, ◌≤◌, Bool, true, false, ◌≡◌, List, [], ◌∷◌, ◌++◌, ◌⊎◌, drop, Some, None}
 use Rattle.message.specs.Frame.{front_length}
-use Rattle.session.specs.declared.state.Code.TheVariants.{Good, Halted}
+use Rattle.session.specs.declared.state.Fault.TheVariants.{Halted}
 use Rattle.session.specs.declared.state.Halt.TheVariants.{NoNumber}
 use Rattle.session.specs.declared.state.Session.{Session}
 use Rattle.session.specs.declared.state.State.TheVariants.{Down, Live}
@@ -54,7 +54,7 @@ pub record Stands (l : Line) : Type 0 where
 
 -- a tick at this time does nothing: it takes the time, and nothing else changes or is said
 abbrev pub Rests : Line → ℕ → Type 0
-Rests l t = tick l t ≡ says (timed l t) Good act.Nothing
+Rests l t = tick l t ≡ says (timed l t) None act.Nothing
 
 -- of a Live line: none of the three is due at the time n
 pub record NothingDue (l : Line) (n : ℕ) : Type 0 where
@@ -69,17 +69,17 @@ sent_line test l t = tested_line test (moved_line l t (day.own_number l.session)
 -- all that a tick can answer, one of five, and what each comes of: nothing is due; Down; a Test Request; a Heartbeat; or a message is due and there is
 -- no number for it
 pub data Acted (l : Line) (t : ℕ) : Ticked → Type 0 where
-  nothing : (l.session.state ≡ Live → NothingDue l (later l.now t)) → Acted l t (says (timed l t) Good act.Nothing)
-  down : l.session.state ≡ Live → l.heard + to_down * wait l ≤ later l.now t → Acted l t (says (drop_line l t) Good act.Down)
+  nothing : (l.session.state ≡ Live → NothingDue l (later l.now t)) → Acted l t (says (timed l t) None act.Nothing)
+  down : l.session.state ≡ Live → l.heard + to_down * wait l ≤ later l.now t → Acted l t (says (drop_line l t) None act.Down)
   test-request : l.session.state ≡ Live → later l.now t < l.heard + to_down * wait l → l.heard + to_test_request * wait l ≤ later l.now t
       → l.tested ≡ false → (l.session.own ≡ last → ⊥)
-      → Acted l t (says (sent_line true l t) Good (act.TestRequest l.session.own (id_of l.session.own)))
+      → Acted l t (says (sent_line true l t) None (act.TestRequest l.session.own (id_of l.session.own)))
   heartbeat : l.session.state ≡ Live → later l.now t < l.heard + to_down * wait l
       → (l.tested ≡ false → later l.now t < l.heard + to_test_request * wait l) → l.sent + wait l ≤ later l.now t → (l.session.own ≡ last → ⊥)
-      → Acted l t (says (sent_line false l t) Good (act.Heartbeat l.session.own))
+      → Acted l t (says (sent_line false l t) None (act.Heartbeat l.session.own))
   no_number : l.session.state ≡ Live → later l.now t < l.heard + to_down * wait l
       → ((l.tested ≡ false) × (l.heard + to_test_request * wait l ≤ later l.now t)) ⊎ (l.sent + wait l ≤ later l.now t) → l.session.own ≡ last
-      → Acted l t (says (drop_line l t) (Halted NoNumber) act.Nothing)
+      → Acted l t (says (drop_line l t) (Some (Halted NoNumber)) act.Nothing)
 
 -- a session after a tick: as it was, dropped, or with a number of ours used
 pub data Turns (s : Session) : Session → Type 0 where

@@ -1,8 +1,7 @@
 -- Document 02, item 2: tick, the one call that acts, and when the next one is due.
-use Rattle.std.specs.Prelude.{ℕ, ◌+◌, ◌*◌, ◌%◌, Bool, true, false, cond, not, ◌&&◌, ◌||◌, eqb, leb, ltb}
+use Rattle.std.specs.Prelude.{ℕ, ◌+◌, ◌*◌, ◌%◌, Bool, true, false, cond, not, ◌&&◌, ◌||◌, eqb, leb, ltb, Option, None}
 use Rattle.session.specs.declared.day.Owned.{Owned}
-use Rattle.session.specs.declared.state.Code.{Code}
-use Rattle.session.specs.declared.state.Code.TheVariants.{Good}
+use Rattle.session.specs.declared.state.Fault.{Fault}
 use Rattle.session.specs.Day.{own_number}
 use Rattle.session.specs.State.{most_id, code_number}
 use Rattle.line.specs.declared.line.Line.{Line}
@@ -69,7 +68,7 @@ tested_line test l = record {
   tested = test || l.tested;
 }
 
-abbrev pub says : Line → Code → Act → Ticked
+abbrev pub says : Line → Option Fault → Act → Ticked
 says l code x = record { line = l; code = code; act = x }
 
 -- a message with a number of ours: a Test Request, whose ID is that number modulo 65,536, or a Heartbeat without ID; 22 where there is no number
@@ -82,13 +81,13 @@ own_act test n = cond test (act.TestRequest n (id_of n)) (act.Heartbeat n)
 unfoldable pub numbered : Bool → Line → ℕ → Owned → Ticked
 numbered test l t o =
     cond (eqb (code_number o.code) 0)
-    (says (tested_line test (moved_line l t o.session false true)) Good (own_act test o.number))
+    (says (tested_line test (moved_line l t o.session false true)) None (own_act test o.number))
     (says (moved_line l t o.session false false) o.code act.Nothing)
 
 -- at most one of the three; Down is a dropped line
 unfoldable pub tick_by : Due → Line → ℕ → Ticked
-tick_by due.Nothing l t = says (timed l t) Good act.Nothing
-tick_by due.Down l t = says (drop_line l t) Good act.Down
+tick_by due.Nothing l t = says (timed l t) None act.Nothing
+tick_by due.Down l t = says (drop_line l t) None act.Down
 tick_by due.TestRequest l t = numbered true l t (own_number l.session)
 tick_by due.Heartbeat l t = numbered false l t (own_number l.session)
 

@@ -5,7 +5,7 @@ ghost use Rattle.session.specs.State.{last};
 ghost use Rattle.line.specs.Tick.{second, wait, reached, due_by, due_live, due_at, id_of, timed, tested_line, own_act, says, numbered, tick, at_time, earlier, not_before, silence_due, next_tick};
 
 use crate::line::{Line, is_live, later};
-use session::state::Code;
+use session::state::{Fault, code_number};
 
 // Milliseconds of a second.
 const SECOND: u64 = 1000;
@@ -41,7 +41,7 @@ pub enum Act {
 #[derive(Clone, Copy)]
 pub struct Ticked {
     pub line: Line,
-    pub code: Code,
+    pub code: Option<Fault>,
     pub act: Act,
 }
 
@@ -94,7 +94,7 @@ fn own_act(test: bool, n: u32) -> Act
     Act::Heartbeat(n)
 }
 
-fn says(line: Line, code: Code, act: Act) -> Ticked
+fn says(line: Line, code: Option<Fault>, act: Act) -> Ticked
     ensures { result ≡ says line code act }
 {
     Ticked { line, code, act }
@@ -204,15 +204,11 @@ impl Line {
         let owned = session.own_number();
         let after = owned.session;
         let code = owned.code;
-        if code.number() != 0 {
+        if code_number(code) != 0 {
             return says(self.moved(t, after, false, false), code, Act::Nothing);
         }
         let line = self.moved(t, after, false, true);
-        says(
-            line.with_test(test),
-            Code::Good,
-            own_act(test, owned.number),
-        )
+        says(line.with_test(test), None, own_act(test, owned.number))
     }
 
     // Tick: at most one of the three, by what is due at the time t, or at the latest time given where that is later.
@@ -221,8 +217,8 @@ impl Line {
     {
         let due = self.due_at(later(self.now, t));
         match due {
-            Due::Nothing => says(self.timed(t), Code::Good, Act::Nothing),
-            Due::Down => says(self.drop(t), Code::Good, Act::Down),
+            Due::Nothing => says(self.timed(t), None, Act::Nothing),
+            Due::Down => says(self.drop(t), None, Act::Down),
             Due::TestRequest => self.numbered(true, t),
             Due::Heartbeat => self.numbered(false, t),
         }

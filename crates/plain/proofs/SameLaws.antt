@@ -7,6 +7,7 @@ use native.Mathlib.Omega.{arith}
 use lib.Dec.{eqb, ltb, leb}
 use lib.ListN.{length}
 use borrow.Author.Tests.{ltb-true, ltb-false, eqb-true, eqb-false, eq-eqb, ne_eqb, le-ltb, le-leb, lt-leb}
+use Rattle.std.specs.Prelude.{Option, None}
 use Rattle.wire.specs.Spelled.{spelled}
 use Rattle.wire.specs.Text.{is_character, all_characters, takes}
 use Rattle.wire.proofs.TestLaws.{either}
@@ -14,8 +15,8 @@ use Rattle.tables.specs.Dictionary.{sort_of, width_of, entry}
 use Rattle.message.specs.Vet.{good_comp_id}
 use Rattle.session.specs.declared.arrival.Content.{Content}
 use Rattle.session.specs.declared.arrival.Content.TheVariants as content
-use Rattle.session.specs.declared.state.Code.{Code}
-use Rattle.session.specs.declared.state.Code.TheVariants as code
+use Rattle.session.specs.declared.state.Fault.{Fault}
+use Rattle.session.specs.declared.state.Fault.TheVariants as fault
 use Rattle.session.specs.declared.state.Halt.{Halt}
 use Rattle.session.specs.declared.state.Halt.TheVariants as halt
 use Rattle.session.specs.declared.state.Row.{Row}
@@ -55,7 +56,7 @@ record Goes (p : Told) (q : Stepped) : Type 0 where
   pub same : Same p q
   pub up : is_waiting p.day ≡ false
 
-goes : {d : Day} {k : Code} {m : Send} {w : Row} {s : Session} → is_waiting d ≡ false → s ≡ session_of d
+goes : {d : Day} {k : Option Fault} {m : Send} {w : Row} {s : Session} → is_waiting d ≡ false → s ≡ session_of d
     → Goes (plain.tells d m w) (answers s k m send.Nothing w)
 goes u e = record { same = record { session = e; row = refl; first = refl; second = refl }; up = u }
 
@@ -228,7 +229,7 @@ same-begun = refl
 pub same : (ls : List Line) → Same (plain.worked_out ls) (quick ls)
 unfolding plain.worked_out quick unmoved
 same ls =
-    same_from (plain.still (Waiting 1 2)) (unmoved begun code.Good) ls (record { session = same-begun; row = refl; first = refl; second = refl }) fit-begun
+    same_from (plain.still (Waiting 1 2)) (unmoved begun None) ls (record { session = same-begun; row = refl; first = refl; second = refl }) fit-begun
 
 -- so each arrival is answered as daysheet's session answers it, where the list has room
 pub each_same : (list : List (List ℕ)) (ls : List Line) (l : Line) → length ls < most_arrivals → length ls < length list

@@ -17,8 +17,8 @@ use message::refusal::{BAD_SUM, SHORT};
 use message::vet::is_comp_id;
 use names::put_name;
 use session::state::{
-    Code, LAST, ROW_BUSINESS, ROW_FILLED, ROW_RESET, ROW_SESSION, Row, Send, Session, State,
-    Stepped, last_of,
+    Fault, LAST, ROW_BUSINESS, ROW_FILLED, ROW_RESET, ROW_SESSION, Row, Send, Session, State,
+    Stepped, code_number, last_of,
 };
 use spelt::{put_amount, put_number, put_shown};
 use std::env::{Env, FillError};
@@ -327,10 +327,10 @@ fn say_outcome(
     out: &mut [u8],
     said: usize,
     s: &[u8],
-    code: Code,
+    code: Option<Fault>,
     row: Row,
 ) -> usize {
-    let k = code.number();
+    let k = code_number(code);
     if k == SHORT || k == BAD_SUM {
         return say_labelled(rt, out, said, b" refused=", k as u64);
     }
@@ -394,7 +394,7 @@ fn say_taken(
     row: Row,
 ) -> usize {
     let said = say_labelled(rt, out, said, b"at=", at);
-    let said = say_outcome(rt, out, said, s, Code::Good, row);
+    let said = say_outcome(rt, out, said, s, None, row);
     let said = say_labelled(rt, out, said, b" next=", last_of(row) as u64 + 1);
     let said = say(rt, out, said, b"\n");
     say_business(rt, out, said, s, row)
@@ -628,7 +628,7 @@ fn step(rt: &(impl Print + Eprint), view: View, buf: &[u8], out: &mut [u8]) -> V
     let said = say_step(rt, out, view.said, view.at, s, stepped);
     let said = say_business(rt, out, said, s, row);
     let code = answer.code;
-    if code.number() == SHORT {
+    if code_number(code) == SHORT {
         return view.stopped(said);
     }
     view.past(next, front_length(s), said)
@@ -714,8 +714,8 @@ fn begin(
     let begun = view.with(session, named);
     let refused = made.code;
     let answered = connected.code;
-    let k = refused.number();
-    let code = if k == 0 { answered.number() } else { k };
+    let k = code_number(refused);
+    let code = if k == 0 { code_number(answered) } else { k };
     if code == 0 {
         return begun;
     }
