@@ -18,437 +18,248 @@
 // and then nothing is sent.
 #![tactic(auto)]
 
+mod complaint;
 mod gateway;
 
-ghost use Rattle.std.specs.Prelude.{◌≡◌, ℕ, ◌*◌, ◌≤◌, length, Ok};
-
+use crate::complaint::{Complaint, Failure};
 use crate::gateway::send;
 use plan::{A_PAIR, NotPlanned, join, plan};
-use std::io;
-use std::io::{Read, Stderr, Stdin, Stdout};
+use std::io::{BufRead, Input, Read};
+use std::{fmt, io, str};
 
-// Standard output and standard error, and how writing to them went: after the first failure nothing more is written.
-#[derive(Drop)]
-struct Out {
-    stdout: Stdout,
-    stderr: Stderr,
-    result: io::Result<()>,
-}
+// The most bytes of the first line, and the most digits of a list.
+const FIRST_LINE: usize = 64;
 
-fn say(out: &mut Out, text: &[u8]) {
-    if out.result.is_ok() {
-        out.result = out.stdout.write_all(text);
-    }
-}
+const LIST: usize = 65536;
 
-fn say_number(out: &mut Out, n: u64) {
-    if out.result.is_ok() {
-        out.result = out.stdout.print(n);
-    }
-}
+// Room for the pairs of a plan, in numbers.
+const ROOM: usize = 65536;
 
-fn tell(out: &mut Out, text: &[u8]) {
-    if out.result.is_ok() {
-        out.result = out.stderr.write_all(text);
-    }
-}
-
-fn tell_number(out: &mut Out, n: u64) {
-    if out.result.is_ok() {
-        out.result = out.stderr.print(n);
-    }
-}
-
-fn complain(out: &mut Out, text: &[u8]) {
-    tell(out, b"bench: ");
-    tell(out, text);
-}
-
-fn usage(out: &mut Out) {
-    complain(
-        out,
-        b"standard input must be two lines: start=S end=E, with S and E from 0 to 4294967295, or start=S end=E split=M, with M from 1 to 4294967294, and then at most 65536 digits, 1 for a business number and 0 for a session number; or the line send start=S end=E and then at most 1048576 bytes, the messages of the list\n",
-    );
-}
-
-fn too_long(out: &mut Out) {
-    complain(
-        out,
-        b"standard input is too long: a list has at most 65536 digits, and nothing follows its line\n",
-    );
-}
-
-fn unread(out: &mut Out) {
-    complain(out, b"standard input cannot be read\n");
-}
-
-// A byte of standard input.
+// Start and End.
 #[derive(Clone, Copy)]
-enum Next {
-    Byte(u8),
-    End,
-    Failed,
+pub(crate) struct Range {
+    pub(crate) start: u32,
+    pub(crate) end: u32,
 }
 
-fn next_byte(mut stdin: Stdin) -> Next {
-    let mut one = [0u8; 1];
-    match stdin.read(&mut one) {
-        Ok(0) => Next::End,
-        Ok(_) => Next::Byte(one[0]),
-        Err(_) => Next::Failed,
+impl fmt::Display for Range {
+    fn fmt<W: fmt::Write>(&self, f: &mut fmt::Formatter<W>) -> fmt::Result {
+        write!(f, "start={} end={}", self.start, self.end)
     }
 }
 
-// A line of standard input, without its end: so many bytes, with the line's end behind them or the input's.
-#[derive(Clone, Copy)]
-enum Line {
-    Whole(usize),
-    Last(usize),
-    TooLong,
-    Failed,
-}
-
-fn read_line(stdin: Stdin, line: &mut [u8]) -> Line {
-    let mut i = 0;
-    while i <= line.len() {
-        match next_byte(stdin) {
-            Next::Byte(b) => {
-                if b == b'\n' {
-                    return Line::Whole(i);
-                }
-                if i == line.len() {
-                    return Line::TooLong;
-                }
-                line[i] = b;
-                i += 1;
-            }
-            Next::End => return Line::Last(i),
-            Next::Failed => return Line::Failed,
-        }
-    }
-    Line::TooLong
-}
-
-fn front(s: &[u8], n: usize) -> &[u8] {
-    if n <= s.len() { &s[..n] } else { s }
-}
-
-fn from(s: &[u8], n: usize) -> &[u8] {
-    if n <= s.len() { &s[n..] } else { s }
-}
-
-fn begins(s: &[u8], word: &[u8]) -> bool {
-    let mut i = 0;
-    while i < word.len() {
-        if s.len() <= i {
-            return false;
-        }
-        if s[i] != word[i] {
-            return false;
-        }
-        i += 1;
-    }
-    true
-}
-
-// The most that Start and End can be, and what stands for every number past it.
-const MOST: u64 = u32::MAX as u64;
-
-const PAST: u64 = MOST + 1;
-
-// The decimal digits at the front: how many, and their value.
-#[derive(Clone, Copy)]
-struct Numeral {
-    value: u64,
-    digits: usize,
-}
-
-fn with_digit(value: u64, digit: u8) -> u64 {
-    if MOST < value {
-        return PAST;
-    }
-    let v = value * 10 + digit as u64;
-    if MOST < v { PAST } else { v }
-}
-
-fn number(s: &[u8]) -> Numeral {
-    let mut value: u64 = 0;
-    let mut digits = 0;
-    while digits < s.len() {
-        let b = s[digits];
-        if b < b'0' || b'9' < b {
-            break;
-        }
-        value = with_digit(value, b - b'0');
-        digits += 1;
-    }
-    Numeral { value, digits }
-}
-
-// Where a plan is split: nowhere, or behind a number.
-#[derive(Clone, Copy)]
-enum Split {
-    Nowhere,
-    Behind(u32),
-}
-
-// The first line: Start, End, and where the plan is split; or Start and End of a plan that is sent.
+// What the first line asks for: a plan, and the number that it is split behind; or a plan that is sent.
 #[derive(Clone, Copy)]
 enum Request {
-    Plan(u32, u32, Split),
-    Send(u32, u32),
-    Bad,
+    Plan(Range, Option<u32>),
+    Send(Range),
 }
 
-// The word that splits, behind the first two. It names no number 0, which as an End would mean the last.
-fn split_asked(s: u32, e: u32, word: &[u8]) -> Request {
-    if !begins(word, b" split=") {
-        return Request::Bad;
+// A line of input with its end, if it has one before the input's: so many bytes, and one more where it is too long.
+fn read_line(
+    rt: &impl AllocGlobal,
+    input: &mut impl BufRead,
+    most: usize,
+) -> Result<Vec<u8>, Failure> {
+    let most = most.saturating_add(1);
+    let mut line = Vec::with_capacity(rt.alloc(), most)?;
+    match input
+        .by_ref()
+        .take(most as u64)
+        .read_until(b'\n', &mut line)
+    {
+        Ok(_) => Ok(line),
+        Err(_) => Err(Failure::Told(Complaint::Unread)),
     }
-    let third = from(word, 7);
-    let m = number(third);
-    if m.digits < third.len() {
-        return Request::Bad;
-    }
-    if m.value == 0 {
-        return Request::Bad;
-    }
-    if MOST < m.value {
-        return Request::Bad;
-    }
-    Request::Plan(s, e, Split::Behind(m.value as u32))
 }
 
-fn plan_asked(line: &[u8]) -> Request {
-    if !begins(line, b"start=") {
-        return Request::Bad;
+// Whether nothing follows.
+pub(crate) fn is_end(input: &mut impl BufRead) -> Result<bool, Complaint> {
+    match input.fill_buf() {
+        Ok(rest) => Ok(rest.is_empty()),
+        Err(_) => Err(Complaint::Unread),
     }
-    let first = from(line, 6);
-    let s = number(first);
-    let rest = from(first, s.digits);
-    if !begins(rest, b" end=") {
-        return Request::Bad;
+}
+
+// The number at the front, in decimal digits, and what stands behind it.
+fn number(s: &[u8]) -> Option<(u32, &[u8])> {
+    let digits = s.iter().position(|b| !b.is_ascii_digit());
+    let (digits, rest) = s.split_at_checked(digits.unwrap_or(s.len()))?;
+    let number = str::from_utf8(digits).ok()?.parse::<u32>().ok()?;
+    Some((number, rest))
+}
+
+// A plan, and where it is split. The word that splits names no number 0, which as an End would mean the last.
+fn plan_asked(line: &[u8]) -> Option<(Range, Option<u32>)> {
+    let (start, rest) = number(line.strip_prefix(b"start=")?)?;
+    let (end, rest) = number(rest.strip_prefix(b" end=")?)?;
+    let range = Range { start, end };
+    if rest.is_empty() {
+        return Some((range, None));
     }
-    let second = from(rest, 5);
-    let e = number(second);
-    if s.digits == 0 || e.digits == 0 {
-        return Request::Bad;
+    let (split, rest) = number(rest.strip_prefix(b" split=")?)?;
+    if split == 0 || !rest.is_empty() {
+        return None;
     }
-    if MOST < s.value {
-        return Request::Bad;
-    }
-    if MOST < e.value {
-        return Request::Bad;
-    }
-    let more = from(second, e.digits);
-    if more.len() == 0 {
-        return Request::Plan(s.value as u32, e.value as u32, Split::Nowhere);
-    }
-    split_asked(s.value as u32, e.value as u32, more)
+    Some((range, Some(split)))
 }
 
 // A plan that is sent is not split.
-fn asked(line: &[u8]) -> Request {
-    let word = b"send ";
-    if !begins(line, word) {
-        return plan_asked(line);
-    }
-    match plan_asked(from(line, word.len())) {
-        Request::Plan(s, e, split) => match split {
-            Split::Nowhere => Request::Send(s, e),
-            Split::Behind(_) => Request::Bad,
-        },
-        Request::Send(_, _) => Request::Bad,
-        Request::Bad => Request::Bad,
+fn asked(line: &[u8]) -> Option<Request> {
+    let Some(line) = line.strip_prefix(b"send ") else {
+        let (range, split) = plan_asked(line)?;
+        return Some(Request::Plan(range, split));
+    };
+    match plan_asked(line)? {
+        (range, None) => Some(Request::Send(range)),
+        (_, Some(_)) => None,
     }
 }
 
-// The first n bytes, digits 0 and 1, become the numbers 0 and 1; false where there is another byte.
-fn mark(list: &mut [u8], n: usize) -> bool {
-    let mut i = 0;
-    while i < n {
-        if list.len() <= i {
-            return false;
+// The digits 0 and 1 become the numbers 0 and 1.
+fn mark(list: &mut [u8]) -> Result<(), Complaint> {
+    for b in list.iter_mut() {
+        *b = match *b {
+            b'0' => 0,
+            b'1' => 1,
+            _ => return Err(Complaint::Usage),
+        };
+    }
+    Ok(())
+}
+
+// The first n pairs of the numbers.
+fn pairs_in(numbers: &[u32], n: usize) -> &[[u32; A_PAIR]] {
+    let (pairs, _) = numbers.as_chunks();
+    pairs.get(..n).unwrap_or(pairs)
+}
+
+// The plan, whose pairs are written into the room.
+pub(crate) fn planned<'a>(
+    list: &[u8],
+    range: Range,
+    room: &'a mut [u32],
+) -> Result<&'a [[u32; A_PAIR]], NotPlanned> {
+    let n = plan(list, range.start, range.end, room)?;
+    Ok(pairs_in(room, n))
+}
+
+fn print_parts(rt: &impl Print, pairs: &[[u32; A_PAIR]]) -> io::Result<()> {
+    for pair in pairs {
+        let [first, new] = *pair;
+        if new == 0 {
+            println!(rt; "business n={first}")?;
+        } else {
+            println!(rt; "gapfill first={first} new={new}")?;
         }
-        let b = list[i];
-        if b < b'0' || b'1' < b {
-            return false;
-        }
-        list[i] = b - b'0';
-        i += 1;
     }
-    true
+    Ok(())
 }
 
-fn say_part(out: &mut Out, first: u32, new: u32) {
-    if new == 0 {
-        say(out, b"business n=");
-        say_number(out, first as u64);
-    } else {
-        say(out, b"gapfill first=");
-        say_number(out, first as u64);
-        say(out, b" new=");
-        say_number(out, new as u64);
-    }
-    say(out, b"\n");
-}
-
-fn say_parts(out: &mut Out, pairs: &[u32], count: usize)
-    requires { 2 * count ≤ length pairs.now }
-{
-    let mut i = 0;
-    while i < count {
-        say_part(out, pairs[A_PAIR * i], pairs[A_PAIR * i + 1]);
-        i += 1;
+fn print_refused(rt: &impl Print, refused: NotPlanned) -> io::Result<()> {
+    let number = refused.number();
+    match refused {
+        NotPlanned::BadRequest => println!(rt; "refused {number}"),
+        NotPlanned::NoRoom(needed) => println!(rt; "refused {number} pairs={needed}"),
     }
 }
 
-fn say_refused(out: &mut Out, refused: NotPlanned) {
-    say(out, b"refused ");
-    say_number(out, refused.number() as u64);
-}
-
-// What was written, or why nothing was.
-fn say_planned(out: &mut Out, planned: Result<usize, NotPlanned>, pairs: &[u32])
-    requires { (n : ℕ) → planned ≡ Ok n → 2 * n ≤ length pairs.now }
-{
+// The pairs that were written, or why none were.
+fn print_planned(rt: &impl Print, planned: Result<&[[u32; A_PAIR]], NotPlanned>) -> io::Result<()> {
     match planned {
-        Ok(n) => say_parts(out, pairs, n),
-        Err(refused) => {
-            say_refused(out, refused);
-            if let NotPlanned::NoRoom(needed) = refused {
-                say(out, b" pairs=");
-                say_number(out, needed as u64);
-            }
-            say(out, b"\n");
+        Ok(pairs) => print_parts(rt, pairs),
+        Err(refused) => print_refused(rt, refused),
+    }
+}
+
+// The plan, under a line that names it.
+fn print_named<'a>(
+    rt: &impl Print,
+    list: &[u8],
+    range: Range,
+    room: &'a mut [u32],
+) -> io::Result<Result<&'a [[u32; A_PAIR]], NotPlanned>> {
+    println!(rt; "plan {range}")?;
+    let planned = planned(list, range, room);
+    print_planned(rt, planned)?;
+    Ok(planned)
+}
+
+fn print_joined(
+    rt: &impl Print,
+    range: Range,
+    one: &[[u32; A_PAIR]],
+    other: &[[u32; A_PAIR]],
+) -> io::Result<()> {
+    println!(rt; "joined {range}")?;
+    let mut room = [0u32; ROOM];
+    match join(one.as_flattened(), other.as_flattened(), &mut room) {
+        Ok(n) => print_parts(rt, pairs_in(&room, n)),
+        Err(refused) => print_refused(rt, refused),
+    }
+}
+
+// The plan for Start to m and the plan for m + 1 to End, and the two joined. No number follows the last one.
+fn print_split(rt: &impl Print, list: &[u8], range: Range, m: u32) -> Result<(), Failure> {
+    let Some(next) = m.checked_add(1) else {
+        return Err(Failure::Told(Complaint::Usage));
+    };
+    let mut one = [0u32; ROOM];
+    let mut other = [0u32; ROOM];
+    let Range { start, end } = range;
+    let first = print_named(rt, list, Range { start, end: m }, &mut one)?;
+    let second = print_named(rt, list, Range { start: next, end }, &mut other)?;
+    if let (Ok(first), Ok(second)) = (first, second) {
+        print_joined(rt, range, first, second)?;
+    }
+    Ok(())
+}
+
+fn print_whole(rt: &impl Print, list: &[u8], range: Range) -> io::Result<()> {
+    let mut room = [0u32; ROOM];
+    print_planned(rt, planned(list, range, &mut room))
+}
+
+// The list is the second line, behind which nothing may follow.
+fn read_list(rt: &impl AllocGlobal, input: &mut impl BufRead) -> Result<Vec<u8>, Failure> {
+    let mut list = read_line(rt, input, LIST)?;
+    if list.as_slice().ends_with(b"\n") {
+        if !is_end(input)? {
+            return Err(Failure::Told(Complaint::TooLong));
         }
+        list.pop();
+    } else if LIST < list.len() {
+        return Err(Failure::Told(Complaint::TooLong));
+    } else if list.is_empty() {
+        return Err(Failure::Told(Complaint::Usage));
     }
+    mark(list.as_mut_slice())?;
+    Ok(list)
 }
 
-// The plan, whose pairs lie within the buffer.
-fn planned(list: &[u8], s: u32, e: u32, pairs: &mut [u32]) -> Result<usize, NotPlanned>
-    ensures { (n : ℕ) → result ≡ Ok n → 2 * n ≤ length pairs.new }
-{
-    plan(list, s, e, pairs)
-}
-
-fn say_plan(out: &mut Out, list: &[u8], s: u32, e: u32, pairs: &mut [u32]) -> Result<usize, NotPlanned>
-    ensures { (n : ℕ) → result ≡ Ok n → 2 * n ≤ length pairs.new }
-{
-    let planned = planned(list, s, e, pairs);
-    say_planned(out, planned, pairs);
-    planned
-}
-
-// The line above a plan where there are more than one.
-fn say_which(out: &mut Out, word: &[u8], s: u32, e: u32) {
-    say(out, word);
-    say(out, b" start=");
-    say_number(out, s as u64);
-    say(out, b" end=");
-    say_number(out, e as u64);
-    say(out, b"\n");
-}
-
-fn say_joined(out: &mut Out, one: &[u32], other: &[u32], s: u32, e: u32) {
-    let mut pairs = [0u32; 65536];
-    say_which(out, b"joined", s, e);
-    let joined = join(one, other, &mut pairs);
-    say_planned(out, joined, &pairs);
-}
-
-// The plan for s to m and the plan for m + 1 to e, and the two joined. No number follows the last one.
-fn say_split(out: &mut Out, list: &[u8], s: u32, m: u32, e: u32) {
-    if m == u32::MAX {
-        usage(out);
-        return;
-    }
-    let mut one = [0u32; 65536];
-    let mut other = [0u32; 65536];
-    say_which(out, b"plan", s, m);
-    let first = say_plan(out, list, s, m, &mut one);
-    say_which(out, b"plan", m + 1, e);
-    let second = say_plan(out, list, m + 1, e, &mut other);
-    if let (Ok(a), Ok(b)) = (first, second) {
-        say_joined(out, &one[..A_PAIR * a], &other[..A_PAIR * b], s, e);
-    }
-}
-
-fn say_whole(out: &mut Out, list: &[u8], s: u32, e: u32) {
-    let mut pairs = [0u32; 65536];
-    let _planned = say_plan(out, list, s, e, &mut pairs);
-}
-
-fn say_answer(out: &mut Out, list: &[u8], s: u32, e: u32, split: Split) {
-    match split {
-        Split::Nowhere => say_whole(out, list, s, e),
-        Split::Behind(m) => say_split(out, list, s, m, e),
-    }
-}
-
-// The list is in the first n bytes.
-fn answer(out: &mut Out, list: &mut [u8], n: usize, s: u32, e: u32, split: Split) {
-    if mark(list, n) {
-        say_answer(out, front(list, n), s, e, split);
-    } else {
-        usage(out);
-    }
-}
-
-// The list's line has ended, and nothing may follow it.
-fn answer_last(
-    out: &mut Out,
-    stdin: Stdin,
-    list: &mut [u8],
-    n: usize,
-    s: u32,
-    e: u32,
-    split: Split,
-) {
-    match next_byte(stdin) {
-        Next::Byte(_) => too_long(out),
-        Next::End => answer(out, list, n, s, e, split),
-        Next::Failed => unread(out),
-    }
-}
-
-fn run(out: &mut Out, stdin: Stdin, s: u32, e: u32, split: Split) {
-    let mut list = [0u8; 65536];
-    match read_line(stdin, &mut list) {
-        Line::Whole(n) => answer_last(out, stdin, &mut list, n, s, e, split),
-        Line::Last(n) => {
-            if n == 0 {
-                usage(out);
-            } else {
-                answer(out, &mut list, n, s, e, split);
+fn answer(rt: &(impl Print + AllocGlobal), input: &mut impl BufRead) -> Result<(), Failure> {
+    let line = read_line(rt, input, FIRST_LINE)?;
+    let request = match line.as_slice().strip_suffix(b"\n") {
+        Some(line) => asked(line),
+        None => None,
+    };
+    match request {
+        Some(Request::Plan(range, split)) => {
+            let list = read_list(rt, input)?;
+            match split {
+                Some(m) => print_split(rt, list.as_slice(), range, m),
+                None => Ok(print_whole(rt, list.as_slice(), range)?),
             }
         }
-        Line::TooLong => too_long(out),
-        Line::Failed => unread(out),
-    }
-}
-
-// The first line says what is asked.
-fn answer_first(out: &mut Out, stdin: Stdin) {
-    let mut line = [0u8; 64];
-    match read_line(stdin, &mut line) {
-        Line::Whole(n) => match asked(front(&line, n)) {
-            Request::Plan(s, e, split) => run(out, stdin, s, e, split),
-            Request::Send(s, e) => send(out, stdin, s, e),
-            Request::Bad => usage(out),
-        },
-        Line::Last(_) => usage(out),
-        Line::TooLong => usage(out),
-        Line::Failed => unread(out),
+        Some(Request::Send(range)) => send(rt, input, range),
+        None => Err(Failure::Told(Complaint::Usage)),
     }
 }
 
 fn main(rt: HostRuntime) -> io::Result<()> {
-    let mut out = Out {
-        stdout: rt.stdout(),
-        stderr: rt.stderr(),
-        result: Ok(()),
-    };
-    answer_first(&mut out, rt.stdin());
-    out.result
+    match answer(&rt, &mut rt.reader()) {
+        Ok(()) => Ok(()),
+        Err(Failure::Told(complaint)) => eprintln!(&rt; "bench: {complaint}"),
+        Err(Failure::Io(error)) => Err(error),
+    }
 }

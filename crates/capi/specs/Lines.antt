@@ -1,5 +1,5 @@
 -- A line with a clock (document 02, item 2), as C sees it: a struct that is checked on every call, and what each call answers.
-use Rattle.std.specs.Prelude.{ℕ, Bool, cond, ◌&&◌, ◌≡◌, List, eqb, length}
+use Rattle.std.specs.Prelude.{ℕ, Bool, cond, ◌&&◌, ◌≡◌, List, eqb, length, Option, Some, None}
 use Rattle.session.specs.Held.{state_at, held}
 use Rattle.session.specs.State.{code_number, code_besides, row_none, send_none}
 use Rattle.calls.specs.Steps.{rows_after, sends_after}
@@ -10,8 +10,6 @@ use Rattle.line.specs.declared.line.LineMade.{LineMade}
 use Rattle.line.specs.declared.line.LineStepped.{LineStepped}
 use Rattle.line.specs.declared.tick.Act.{Act}
 use Rattle.line.specs.declared.tick.Act.TheVariants as act
-use Rattle.line.specs.declared.tick.NextTick.{NextTick}
-use Rattle.line.specs.declared.tick.NextTick.TheVariants as next
 use Rattle.line.specs.declared.tick.Ticked.{Ticked}
 use Rattle.line.specs.Line.{line_number, fresh_line, saved_line, is_live, connect_line, drop_line, step_line, steps_line, is_held_line, held_line}
 use Rattle.line.specs.Tick.{tick, next_tick}
@@ -150,29 +148,29 @@ abbrev pub TakesLineC : CLine → ℕ → List ℕ → List ℕ → List ℕ →
 TakesLineC c t s d e r d' e' = (r ≡ steps_line_c c t s (length d) (length e)) × (d' ≡ rows_line_c c s d e) × (e' ≡ sends_line_c c s d e)
 
 -- a tick: what it did in numbers, and its message to send
-unfoldable pub act_number : Act → ℕ
-act_number act.Nothing = 0
-act_number act.Down = 1
-act_number (act.TestRequest n id) = 2
-act_number (act.Heartbeat n) = 3
+unfoldable pub act_number : Option Act → ℕ
+act_number None = 0
+act_number (Some act.Down) = 1
+act_number (Some (act.TestRequest n id)) = 2
+act_number (Some (act.Heartbeat n)) = 3
 
-unfoldable pub act_send : Act → CSend
-act_send act.Nothing = no_send
-act_send act.Down = no_send
-act_send (act.TestRequest n id) = to_send send_test_request n id 0
-act_send (act.Heartbeat n) = to_send send_bare_heartbeat n 0 0
+unfoldable pub act_send : Option Act → CSend
+act_send None = no_send
+act_send (Some act.Down) = no_send
+act_send (Some (act.TestRequest n id)) = to_send send_test_request n id 0
+act_send (Some (act.Heartbeat n)) = to_send send_bare_heartbeat n 0 0
 
 unfoldable pub shown_ticked : Ticked → CTicked
 shown_ticked x = record { refusal = code_number x.code; act = act_number x.act; line = shown_line x.line; send = act_send x.act }
 
 unfoldable pub tick_c : CLine → ℕ → CTicked
 tick_c c t =
-    cond (is_line c) (shown_ticked (tick (line_in c) t)) (record { refusal = not_a_session; act = act_number act.Nothing; line = c; send = no_send })
+    cond (is_line c) (shown_ticked (tick (line_in c) t)) (record { refusal = not_a_session; act = act_number None; line = c; send = no_send })
 
 -- when the next one is due
-unfoldable pub shown_next : NextTick → CNextTick
-shown_next (next.At t) = record { refusal = 0; due = 1; time = t }
-shown_next next.Never = record { refusal = 0; due = 0; time = 0 }
+unfoldable pub shown_next : Option ℕ → CNextTick
+shown_next (Some t) = record { refusal = 0; due = 1; time = t }
+shown_next None = record { refusal = 0; due = 0; time = 0 }
 
 unfoldable pub next_tick_c : CLine → CNextTick
 next_tick_c c = cond (is_line c) (shown_next (next_tick (line_in c))) (record { refusal = not_a_session; due = 0; time = 0 })

@@ -14,7 +14,7 @@ use crate::shape::{
     CLine, CLineConnected, CLineDone, CLineMade, CLineStepped, CNextTick, CRow, CSend, CTicked,
 };
 use line::line::{Line, LineConnected, LineDone, LineMade, LineStepped};
-use line::tick::{Act, NextTick, Ticked};
+use line::tick::{Act, Ticked};
 use message::frame::front_length;
 use message::read::read;
 use session::held::LIVE;
@@ -263,25 +263,29 @@ pub fn line_steps_c(c: CLine, t: u64, s: &[u8], rows: &mut [u32], sends: &mut [u
     line_done_shown(line.steps(t, s, rows, sends))
 }
 
-fn act_number(act: Act) -> u32
+fn act_number(act: Option<Act>) -> u32
     ensures { result ≡ act_number act }
 {
     match act {
-        Act::Nothing => 0,
-        Act::Down => 1,
-        Act::TestRequest(_, _) => 2,
-        Act::Heartbeat(_) => 3,
+        None => 0,
+        Some(done) => match done {
+            Act::Down => 1,
+            Act::TestRequest(_, _) => 2,
+            Act::Heartbeat(_) => 3,
+        },
     }
 }
 
-fn act_send(act: Act) -> CSend
+fn act_send(act: Option<Act>) -> CSend
     ensures { result ≡ act_send act }
 {
     match act {
-        Act::Nothing => no_send(),
-        Act::Down => no_send(),
-        Act::TestRequest(n, id) => to_send(SEND_TEST_REQUEST, n, id as u32, 0),
-        Act::Heartbeat(n) => to_send(SEND_BARE_HEARTBEAT, n, 0, 0),
+        None => no_send(),
+        Some(done) => match done {
+            Act::Down => no_send(),
+            Act::TestRequest(n, id) => to_send(SEND_TEST_REQUEST, n, id as u32, 0),
+            Act::Heartbeat(n) => to_send(SEND_BARE_HEARTBEAT, n, 0, 0),
+        },
     }
 }
 
@@ -310,7 +314,7 @@ pub fn line_tick_c(c: CLine, t: u64) -> CTicked
     if refusal != 0 {
         return CTicked {
             refusal,
-            act: act_number(Act::Nothing),
+            act: act_number(None),
             line: c,
             send: no_send(),
         };
@@ -318,16 +322,16 @@ pub fn line_tick_c(c: CLine, t: u64) -> CTicked
     ticked_shown(line.tick(t))
 }
 
-fn next_shown(x: NextTick) -> CNextTick
+fn next_shown(x: Option<u64>) -> CNextTick
     ensures { result ≡ shown_next x }
 {
     match x {
-        NextTick::At(time) => CNextTick {
+        Some(time) => CNextTick {
             refusal: 0,
             due: 1,
             time,
         },
-        NextTick::Never => CNextTick {
+        None => CNextTick {
             refusal: 0,
             due: 0,
             time: 0,

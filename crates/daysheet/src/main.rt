@@ -12,9 +12,9 @@ ghost use Rattle.wire.specs.Laying.{laid, laid_answer};
 ghost use Rattle.sheet.specs.Print.{line_text};
 ghost use Rattle.plain.specs.Both.{expected_in};
 
-use plain::{Arrived, Day, MOST_ARRIVALS, Told, arrive};
+use plain::{Day, MOST_ARRIVALS, Told, arrive};
 use session::state::Session;
-use sheet::line::{Line, Said, begins_with, read_line};
+use sheet::line::read_line;
 use sheet::print::{put_bad, put_full, put_line};
 use sheet::sheet::{End, begun, next_count, take_lines};
 use spelt::line_length;
@@ -25,25 +25,11 @@ use wire::laying::Laid;
 // Room for a word of the command line.
 const A_WORD: usize = 4096;
 
-// Whether the plain recorder answers; the quick one's session, how many arrivals the plain one has kept, and the next line's
-// number. (An enum of the two is not to be had: it would hold a session's array.)
+// The recorder that answers: the quick one's session, or how many arrivals the plain one has kept in its list.
 #[derive(Clone, Copy)]
-struct Recorder {
-    plain: bool,
-    session: Session,
-    kept: usize,
-    count: u64,
-}
-
-// What is kept from turn to turn: the recorder, where the unread bytes of the input buffer begin and end, whether the input
-// has ended, and whether to go on.
-#[derive(Clone, Copy)]
-struct Progress {
-    recorder: Recorder,
-    from: usize,
-    end: usize,
-    closed: bool,
-    going: bool,
+enum Recorder {
+    Quick(Session),
+    Plain { kept: usize },
 }
 
 // What comes next: more input, more of the lines that are there, or nothing.
@@ -54,75 +40,33 @@ enum Next {
     Nothing,
 }
 
-// What lines gave: the recorder after them, how many bytes they are and how many were printed, and what comes next.
+// What lines gave: the recorder after them, the next line's number, how many bytes they are and how many were printed, and
+// what comes next.
 #[derive(Clone, Copy)]
 struct Took {
     recorder: Recorder,
+    count: u64,
     used: usize,
     written: usize,
     next: Next,
 }
 
-impl Recorder {
-    // The plain one after a line: it has kept so many.
-    fn took(self, kept: usize, used: usize, written: usize, next: Next) -> Took {
-        let session = self.session;
-        let count = self.count;
-        let recorder = Recorder {
-            plain: true,
-            session,
-            kept,
-            count: next_count(count),
-        };
-        Took {
-            recorder,
-            used,
-            written,
-            next,
-        }
-    }
+// Where the unread bytes of the input buffer begin and end, and whether the input has ended. (No `Vec` holds them: the
+// program has no heap.)
+#[derive(Clone, Copy)]
+struct Unread {
+    from: usize,
+    end: usize,
+    closed: bool,
 }
 
-impl Progress {
-    // The same with other unread bytes.
-    fn with(self, from: usize, end: usize, closed: bool, going: bool) -> Progress {
-        let recorder = self.recorder;
-        Progress {
-            recorder,
-            from,
-            end,
-            closed,
-            going,
-        }
+// Writes to standard output: whether it could.
+fn print(rt: &(impl Print + Eprint), text: &[u8]) -> bool {
+    let written = rt.write_all(text).is_ok();
+    if !written {
+        let _ = eprintln!(rt; "daysheet: the standard output cannot be written");
     }
-
-    fn stopped(self) -> Progress {
-        self.with(0, 0, true, false)
-    }
-}
-
-fn complain(rt: &impl Eprint, text: &str) {
-    let _ = rt.eprint(text);
-}
-
-// The bytes from `from` to `end`, or none where they are not such.
-fn part(buf: &[u8], from: usize, end: usize) -> &[u8] {
-    if buf.len() < end {
-        return &buf[..0];
-    }
-    if end < from {
-        return &buf[..0];
-    }
-    &buf[from..end]
-}
-
-// Writes the first n bytes to standard output: whether it could.
-fn print(rt: &(impl Print + Eprint), out: &[u8], n: usize) -> bool {
-    if rt.write_all(part(out, 0, n)).is_ok() {
-        return true;
-    }
-    complain(rt, "daysheet: the standard output cannot be written\n");
-    false
+    written
 }
 
 // Moves the bytes from `from` to `end` to the front: how many they are.
@@ -130,75 +74,65 @@ fn to_front(buf: &mut [u8], from: usize, end: usize) -> usize
     ensures value { from ≤ end → end ≤ length buf.old → result ≡ end - from }
     ensures buf_after { from ≤ end → end ≤ length buf.old → take result buf.new ≡ take result (drop from buf.old) }
 {
-    if end < from {
+    if end < from || buf.len() < end {
         return 0;
     }
-    if buf.len() < end {
-        return 0;
-    }
-    let n = end - from;
-    if from == 0 {
-        return n;
-    }
-    let mut i = 0;
-    while i < n {
-        buf[i] = buf[from + i];
-        i += 1;
-    }
-    n
+    buf.copy_within(from..end, 0);
+    end - from
 }
 
-// No whole line is left: more is read behind the unread bytes. At the end of the input a line without its end gets one.
+// No whole line is left: more is read behind the unread bytes. At the end of the input a line without its end gets one. None:
+// there is no more to do.
 fn more(
     rt: &(impl Print + Eprint),
     input: &mut impl Read,
-    so_far: Progress,
+    unread: Unread,
+    count: u64,
     buf: &mut [u8],
     out: &mut [u8],
-) -> Progress {
-    let recorder = so_far.recorder;
-    if so_far.closed {
-        return so_far.stopped();
+) -> Option<Unread> {
+    if unread.closed {
+        return None;
     }
-    let kept = so_far.end;
+    let kept = to_front(buf, unread.from, unread.end);
     if buf.len() <= kept {
-        let laid = put_bad(out, recorder.count);
-        print(rt, out, laid.besides());
-        return so_far.stopped();
+        let laid = put_bad(out, count);
+        print(rt, out.get(..laid.besides()).unwrap_or(&[]));
+        return None;
     }
     let Ok(came) = input.read(&mut buf[kept..]) else {
-        complain(rt, "daysheet: the standard input cannot be read\n");
-        return so_far.stopped();
+        let _ = eprintln!(rt; "daysheet: the standard input cannot be read");
+        return None;
     };
     if 0 < came {
-        return so_far.with(0, kept + came, false, true);
+        return Some(Unread {
+            from: 0,
+            end: kept + came,
+            closed: false,
+        });
     }
     if kept == 0 {
-        return so_far.stopped();
+        return None;
     }
-    buf[kept] = 10;
-    so_far.with(0, kept + 1, true, true)
+    buf[kept] = b'\n';
+    Some(Unread {
+        from: 0,
+        end: kept + 1,
+        closed: true,
+    })
 }
 
 // The quick recorder takes every whole line for whose printed line there is room.
-fn quick(recorder: Recorder, s: &[u8], out: &mut [u8]) -> Took {
-    let session = recorder.session;
-    let taken = take_lines(session, recorder.count, s, out);
-    let session = taken.session;
-    let end = taken.end;
-    let next = match end {
+fn quick(session: Session, count: u64, s: &[u8], out: &mut [u8]) -> Took {
+    let taken = take_lines(session, count, s, out);
+    let next = match taken.end {
         End::NoLine => Next::Input,
         End::NoRoom => Next::Lines,
         End::BadLine => Next::Nothing,
     };
-    let recorder = Recorder {
-        plain: false,
-        session,
-        kept: 0,
-        count: taken.count,
-    };
     Took {
-        recorder,
+        recorder: Recorder::Quick(taken.session),
+        count: taken.count,
         used: taken.used,
         written: taken.written,
         next,
@@ -228,153 +162,78 @@ fn tell(told: Told, out: &mut [u8]) -> Laid
     put_line(out, row, expected(day), send)
 }
 
-// The plain recorder takes a line of so many bytes. One that its list has no room for is the last, as a bad one is.
-fn keep(
-    recorder: Recorder,
-    line: Line,
-    used: usize,
-    list: &mut [[u32; 4]],
-    out: &mut [u8],
-) -> Took {
-    let kept = recorder.kept;
-    let arrived = arrive(list, kept, line);
-    match arrived {
-        Arrived::Kept(count, told) => {
-            let laid = tell(told, out);
-            recorder.took(count, used, laid.besides(), Next::Lines)
-        }
-        Arrived::Full => {
-            let laid = put_full(out, recorder.count);
-            recorder.took(kept, used, laid.besides(), Next::Nothing)
-        }
-    }
-}
-
-// The plain recorder takes one line, if there is a whole one.
-fn plainly(recorder: Recorder, s: &[u8], list: &mut [[u32; 4]], out: &mut [u8]) -> Took {
-    let kept = recorder.kept;
+// The plain recorder takes one line, if there is a whole one. One that its list has no room for is the last, as a bad one is.
+fn plain(kept: usize, count: u64, s: &[u8], list: &mut [[u32; 4]], out: &mut [u8]) -> Took {
     let n = line_length(s);
     if s.len() <= n {
         return Took {
-            recorder,
+            recorder: Recorder::Plain { kept },
+            count,
             used: 0,
             written: 0,
             next: Next::Input,
         };
     }
-    let said = read_line(part(s, 0, n));
-    match said {
-        Said::Line(line) => keep(recorder, line, n + 1, list, out),
-        Said::Bad => {
-            let laid = put_bad(out, recorder.count);
-            recorder.took(kept, n + 1, laid.besides(), Next::Nothing)
-        }
-    }
-}
-
-// Where the unread bytes begin once so many more are used.
-fn forward(from: usize, used: usize, end: usize) -> usize {
-    if end < from {
-        return end;
-    }
-    if end - from < used {
-        return end;
-    }
-    from + used
-}
-
-// What was printed is written out; then more is read where no whole line is left.
-fn on(
-    rt: &(impl Print + Eprint),
-    input: &mut impl Read,
-    so_far: Progress,
-    took: Took,
-    buf: &mut [u8],
-    out: &mut [u8],
-) -> Progress {
-    let recorder = took.recorder;
-    let next = took.next;
-    let from = forward(so_far.from, took.used, so_far.end);
-    let after = Progress {
-        recorder,
-        from,
-        end: so_far.end,
-        closed: so_far.closed,
-        going: true,
+    let (kept, laid, next) = match read_line(&s[..n]) {
+        Some(line) => match arrive(list, kept, line) {
+            Some((kept, told)) => (kept, tell(told, out), Next::Lines),
+            None => (kept, put_full(out, count), Next::Nothing),
+        },
+        None => (kept, put_bad(out, count), Next::Nothing),
     };
-    if !print(rt, out, took.written) {
-        return after.stopped();
-    }
-    match next {
-        Next::Input => {
-            let kept = to_front(buf, from, so_far.end);
-            more(
-                rt,
-                input,
-                after.with(0, kept, so_far.closed, true),
-                buf,
-                out,
-            )
-        }
-        Next::Lines => after,
-        Next::Nothing => after.stopped(),
+    Took {
+        recorder: Recorder::Plain { kept },
+        count: next_count(count),
+        used: n + 1,
+        written: laid.besides(),
+        next,
     }
 }
 
-// One turn: lines of the buffer, and then more input.
-fn turn(
-    rt: &(impl Print + Eprint),
-    input: &mut impl Read,
-    so_far: Progress,
-    buf: &mut [u8],
-    list: &mut [[u32; 4]],
-    out: &mut [u8],
-) -> Progress {
-    let recorder = so_far.recorder;
-    if recorder.plain {
-        let took = plainly(recorder, part(buf, so_far.from, so_far.end), list, out);
-        return on(rt, input, so_far, took, buf, out);
-    }
-    let took = quick(recorder, part(buf, so_far.from, so_far.end), out);
-    on(rt, input, so_far, took, buf, out)
-}
-
-// A proved loop ends, and nothing says that the input does: turns are counted up to a number that no run reaches.
+// A proved loop ends, and nothing says that the input does: turns are counted up to a number that no run reaches. Each takes
+// lines of the buffer and writes out what they print; then more is read where no whole line is left.
 fn run(
     rt: &(impl Print + Eprint),
     input: &mut impl Read,
-    start: Progress,
+    start: Recorder,
     buf: &mut [u8],
     list: &mut [[u32; 4]],
     out: &mut [u8],
 ) {
-    let mut so_far = start;
+    let mut recorder = start;
+    let mut count = 1;
+    let mut unread = Unread {
+        from: 0,
+        end: 0,
+        closed: false,
+    };
     for _ in 0..u64::MAX {
-        if !so_far.going {
+        let lines = buf.get(unread.from..unread.end).unwrap_or(&[]);
+        let took = match recorder {
+            Recorder::Quick(session) => quick(session, count, lines, out),
+            Recorder::Plain { kept } => plain(kept, count, lines, list, out),
+        };
+        recorder = took.recorder;
+        count = took.count;
+        unread.from = unread.from.saturating_add(took.used).min(unread.end);
+        if !print(rt, out.get(..took.written).unwrap_or(&[])) {
             return;
         }
-        so_far = turn(rt, input, so_far, buf, list, out);
+        match took.next {
+            Next::Input => match more(rt, input, unread, count, buf, out) {
+                Some(left) => unread = left,
+                None => return,
+            },
+            Next::Lines => {}
+            Next::Nothing => return,
+        }
     }
-}
-
-// What the command line asks for.
-#[derive(Clone, Copy)]
-enum Asked {
-    Quick,
-    Plain,
-    Usage,
-}
-
-fn is_plain(word: &[u8]) -> bool {
-    let plain = b"--plain";
-    word.len() == plain.len() && begins_with(plain, word)
 }
 
 // Whether the command line has a word here.
 fn has_word(rt: &impl Env, i: usize) -> bool {
     match rt.arg(i, &mut [0u8; 1]) {
-        Ok(_) => true,
-        Err(FillError::TooLong) => true,
+        Ok(_) | Err(FillError::TooLong) => true,
         Err(FillError::NotPresent) => false,
     }
 }
@@ -383,51 +242,33 @@ fn has_word(rt: &impl Env, i: usize) -> bool {
 fn has_plain(rt: &impl Env, i: usize) -> bool {
     let mut word = [0u8; A_WORD];
     match rt.arg(i, &mut word) {
-        Ok(n) => is_plain(part(&word, 0, n)),
+        Ok(n) => word.get(..n).unwrap_or(&[]) == b"--plain".as_slice(),
         Err(_) => false,
     }
 }
 
-fn hear(rt: &impl Env) -> Asked {
+// The recorder that the command line asks for; none where it asks for something else.
+fn asked(rt: &impl Env) -> Option<Recorder> {
     if !has_word(rt, 1) {
-        return Asked::Quick;
+        return Some(Recorder::Quick(begun()));
     }
     if has_plain(rt, 1) && !has_word(rt, 2) {
-        return Asked::Plain;
+        return Some(Recorder::Plain { kept: 0 });
     }
-    Asked::Usage
+    None
 }
 
 fn main(rt: HostRuntime) {
-    let asked = hear(&rt);
-    let plain = match asked {
-        Asked::Quick => false,
-        Asked::Plain => true,
-        Asked::Usage => {
-            complain(&rt, "usage: daysheet [--plain]\n");
-            return;
-        }
+    let Some(recorder) = asked(&rt) else {
+        let _ = eprintln!(rt; "usage: daysheet [--plain]");
+        return;
     };
     let mut buf = [0u8; 65536];
     let mut out = [0u8; 65536];
     let mut list = [[0u32; 4]; MOST_ARRIVALS];
-    if !print(&rt, b"sheet=1\n", 8) {
+    if !print(&rt, b"sheet=1\n") {
         return;
     }
-    let session = begun();
-    let recorder = Recorder {
-        plain,
-        session,
-        kept: 0,
-        count: 1,
-    };
-    let start = Progress {
-        recorder,
-        from: 0,
-        end: 0,
-        closed: false,
-        going: true,
-    };
     let mut input = rt.stdin();
-    run(&rt, &mut input, start, &mut buf, &mut list, &mut out);
+    run(&rt, &mut input, recorder, &mut buf, &mut list, &mut out);
 }

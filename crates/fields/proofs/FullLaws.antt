@@ -24,13 +24,11 @@ use Rattle.wire.specs.Text.{is_character, all_characters, takes, fixed_bytes, va
 use Rattle.wire.proofs.MapLaws.{no-bit, length-with, present-with, present-with-other}
 use Rattle.wire.proofs.TestLaws.{either}
 use Rattle.wire.proofs.TextLaws.{takes-by-characters, length-fixed_bytes, fixed-again, length-variable_bytes, variable-again}
-use Rattle.fields.specs.declared.check.Checked.TheVariants.{Good}
 use Rattle.std.specs.Prelude.{None}
-use Rattle.fields.specs.declared.walk.Walked.TheVariants.{Done}
-use Rattle.fields.specs.Check.{yes_no, fixed_taken, fixed, variable_taken, variable, check_sort, check_row}
+use Rattle.fields.specs.Check.{yes_no, fixed_taken, fixed, variable_taken, variable, check_sort, check_row, good_field}
 use Rattle.fields.specs.Cut.{positions, cut_at}
 use Rattle.fields.specs.Sets.{unknown_to, unknown_at, missing_at, lowest, lowest_unknown, lowest_missing}
-use Rattle.fields.specs.Walk.{walk_through, walk_of}
+use Rattle.fields.specs.Walk.{walk_through, walk_of, all_good}
 use Rattle.fields.proofs.BytesLaws.{no_byte, bytes-none, bytes-append, bytes-replicate, bytes-fixed, bytes-variable, bytes-with}
 use Rattle.fields.proofs.CheckLaws.{whole_of}
 use Rattle.fields.proofs.SetsLaws.{place_none, first-none}
@@ -67,7 +65,7 @@ full_size YesNo l = refl
 full_size (Fixed allowed w) l = length-fixed_bytes w (letters (w - 1)) (omega (arith, text-full w l))
 full_size (Variable allowed w) l = length-variable_bytes (letters (w - 1)) ∙ omega (arith, text-full w l)
 
-full-good : (sort : Sort) → 1 ≤ width_of sort → width_of sort ≤ 4096 → (r : List ℕ) → check_sort sort (full_sort sort ++ r) ≡ Good (most_of sort) (most_of sort)
+full-good : (sort : Sort) → 1 ≤ width_of sort → width_of sort ≤ 4096 → (r : List ℕ) → check_sort sort (full_sort sort ++ r) ≡ good_field (most_of sort) (most_of sort)
 unfolding width_of check_sort fixed fixed_taken variable variable_taken yes_no full_sort most_of
 full-good (Number w) l m r = whole_of w (letters w) r (length-replicate {A = ℕ} w yes)
 full-good Decimal l m r = whole_of 8 (letters 8) r refl
@@ -76,7 +74,7 @@ full-good YesNo l m r = refl
 full-good (Fixed allowed w) l m r = ap fixed_taken (fixed-again allowed w (letters (w - 1)) r (text-takes allowed w l m))
 full-good (Variable allowed w) l m r =
     let e : length (letters (w - 1)) + 3 ≡ 2 + w = omega (arith, text-full w l) in
-    ap variable_taken (variable-again allowed w (letters (w - 1)) r (text-takes allowed w l m)) ∙ ap (λ (n : ℕ). Good n n) e
+    ap variable_taken (variable-again allowed w (letters (w - 1)) r (text-takes allowed w l m)) ∙ ap (λ (n : ℕ). good_field n n) e
 
 -- the field that a row names, and all that the rows name at the n positions from p on
 unfoldable pub full_at : Row → List ℕ
@@ -93,7 +91,7 @@ row-size (Optional f) = full_size (sort_of f) (width-least f)
 row-size UnknownPosition = refl
 row-size UnknownType = refl
 
-row-good : (row : Row) (r : List ℕ) → is_known row ≡ true → check_row row (full_at row ++ r) ≡ Good (most_at row) (most_at row)
+row-good : (row : Row) (r : List ℕ) → is_known row ≡ true → check_row row (full_at row ++ r) ≡ good_field (most_at row) (most_at row)
 unfolding is_known check_row full_at most_at
 row-good (Required f) r k = full-good (sort_of f) (width-least f) (width-most f) r
 row-good (Optional f) r k = full-good (sort_of f) (width-least f) (width-most f) r
@@ -186,29 +184,29 @@ module _ (rows : ℕ → Row) where
 
   -- the walk over the full fields
   walk_step : (n p sum : ℕ) (known : Bool) → is_known (rows p) ≡ known → present full_map p ≡ known
-      → ((sum : ℕ) → walk_from rows (positions full_map n (suc p)) sum (full_from rows n (suc p)) ≡ Done 0 (sum + most_from rows n (suc p)))
-      → walk_from rows (positions full_map (suc n) p) sum (full_from rows (suc n) p) ≡ Done 0 (sum + most_from rows (suc n) p)
+      → ((sum : ℕ) → walk_from rows (positions full_map n (suc p)) sum (full_from rows n (suc p)) ≡ all_good 0 (sum + most_from rows n (suc p)))
+      → walk_from rows (positions full_map (suc n) p) sum (full_from rows (suc n) p) ≡ all_good 0 (sum + most_from rows (suc n) p)
   unfolding positions full_from most_from
   walk_step n p sum true k h again =
       let rest = full_from rows n (suc p) in
       let e : sum + most_at (rows p) + most_from rows n (suc p) ≡ sum + (most_at (rows p) + most_from rows n (suc p)) = omega arith in
       rw h (walk-on rows p (positions full_map n (suc p)) sum (most_at (rows p)) (most_at (rows p)) (full_at (rows p) ++ rest) (row-good (rows p) rest k)
       ∙ ap (walk_from rows (positions full_map n (suc p)) (sum + most_at (rows p))) (drop_at (full_at (rows p)) rest (most_at (rows p)) (row-size (rows p)))
-      ∙ again (sum + most_at (rows p)) ∙ ap (Done 0) e)
+      ∙ again (sum + most_at (rows p)) ∙ ap (all_good 0) e)
   walk_step n p sum false k h again =
       let none = row-none (rows p) k in
       rw (h, none.0, none.1, zero-add) (again sum)
 
-  walk-full : (n p sum : ℕ) → n + p ≤ map_positions → walk_from rows (positions full_map n p) sum (full_from rows n p) ≡ Done 0 (sum + most_from rows n p)
+  walk-full : (n p sum : ℕ) → n + p ≤ map_positions → walk_from rows (positions full_map n p) sum (full_from rows n p) ≡ all_good 0 (sum + most_from rows n p)
   unfolding positions full_from most_from walk_from cut_at walk_through
   walk-full zero p sum l = rw add-zero refl
   walk-full (suc n) p sum l =
       walk_step n p sum (is_known (rows p)) refl (full-known p (omega arith)) (λ k. walk-full n (suc p) k (omega arith))
 
-  pub full-walk : walk_of rows full_map full_body ≡ Done 0 (most_from rows map_positions 0)
+  pub full-walk : walk_of rows full_map full_body ≡ all_good 0 (most_from rows map_positions 0)
   unfolding full_body
   full-walk =
-      sym (walk-whole rows full_map full_body) ∙ walk-full map_positions 0 0 (omega arith) ∙ ap (Done 0) (zero-add (most_from rows map_positions 0))
+      sym (walk-whole rows full_map full_body) ∙ walk-full map_positions 0 0 (omega arith) ∙ ap (all_good 0) (zero-add (most_from rows map_positions 0))
 
   -- no position is unknown, and none is missing
   known-or-clear : (p : ℕ) → present full_map p ≡ is_known (rows p) → unknown_at rows full_map p ≡ false

@@ -15,15 +15,13 @@ use Rattle.tables.specs.Longest.{most_of, most_at, most_from}
 use Rattle.wire.specs.Map.{map_positions, present}
 use Rattle.wire.specs.Number.{number}
 use Rattle.wire.proofs.TextLaws.{fixed-good, variable-good}
-use Rattle.fields.specs.declared.check.Checked.TheVariants.{Good}
-use Rattle.fields.specs.declared.walk.Walked.TheVariants.{Done}
-use Rattle.fields.specs.Check.{check_sort, check_row}
+use Rattle.fields.specs.Check.{check_sort, check_row, good_field}
 use Rattle.fields.specs.Cut.{positions}
-use Rattle.fields.specs.Walk.{walk_of}
+use Rattle.fields.specs.Walk.{walk_of, all_good}
 use Rattle.fields.proofs.CheckLaws.{whole-good, yes-no-good, fixed-checked, variable-checked, row-good, row_within}
 use Rattle.fields.proofs.WalkLaws.{walk_from, walk-ended, walk_first, walk-whole}
 
-sort-most : (sort : Sort) (taken plain : ℕ) (s : List ℕ) → check_sort sort s ≡ Good taken plain → taken ≤ most_of sort
+sort-most : (sort : Sort) (taken plain : ℕ) (s : List ℕ) → check_sort sort s ≡ good_field taken plain → taken ≤ most_of sort
 unfolding check_sort most_of
 sort-most (Number w) taken plain s h = omega (arith, (whole-good w s taken plain h).extent)
 sort-most Decimal taken plain s h = omega (arith, (whole-good 8 s taken plain h).extent)
@@ -43,7 +41,7 @@ unfolding most_at
 names-most names-required = refl
 names-most names-optional = refl
 
-row-most : (row : Row) (taken plain : ℕ) (s : List ℕ) → check_row row s ≡ Good taken plain → taken ≤ most_at row
+row-most : (row : Row) (taken plain : ℕ) (s : List ℕ) → check_row row s ≡ good_field taken plain → taken ≤ most_at row
 row-most row taken plain s h =
     let g = row-good row s taken plain h in
     rw (names-most g.names) (sort-most (sort_of g.field) taken plain s g.good)
@@ -52,8 +50,8 @@ module _ (rows : ℕ → Row) (left plain : ℕ) where
   module _ (m : List ℕ) where
     -- one position more; `here` says whether the map has it
     most_step : (n p sum : ℕ) (s : List ℕ) (here : Bool) → present m p ≡ here
-        → ((sum : ℕ) (s : List ℕ) → walk_from rows (positions m n (suc p)) sum s ≡ Done left plain → length s ≤ left + most_from rows n (suc p))
-        → walk_from rows (positions m (suc n) p) sum s ≡ Done left plain → length s ≤ left + most_from rows (suc n) p
+        → ((sum : ℕ) (s : List ℕ) → walk_from rows (positions m n (suc p)) sum s ≡ all_good left plain → length s ≤ left + most_from rows n (suc p))
+        → walk_from rows (positions m (suc n) p) sum s ≡ all_good left plain → length s ≤ left + most_from rows (suc n) p
     unfolding positions most_from
     most_step n p sum s true h again e =
         let x = walk_first rows left plain p (positions m n (suc p)) sum s (rw h at e) in
@@ -62,12 +60,12 @@ module _ (rows : ℕ → Row) (left plain : ℕ) where
         omega (arith, length-drop x.taken s)
     most_step n p sum s false h again e = omega (arith, again sum s (rw h at e))
 
-    walk-most : (n p sum : ℕ) (s : List ℕ) → walk_from rows (positions m n p) sum s ≡ Done left plain → length s ≤ left + most_from rows n p
+    walk-most : (n p sum : ℕ) (s : List ℕ) → walk_from rows (positions m n p) sum s ≡ all_good left plain → length s ≤ left + most_from rows n p
     unfolding positions most_from
     walk-most zero p sum s e = omega (arith, (walk-ended rows left plain sum s e).behind)
     walk-most (suc n) p sum s e = most_step n p sum s (present m p) refl (walk-most n (suc p)) e
 
-  walk-shorter : (ps : List ℕ) (sum : ℕ) (s : List ℕ) → walk_from rows ps sum s ≡ Done left plain → plain + left ≤ sum + length s
+  walk-shorter : (ps : List ℕ) (sum : ℕ) (s : List ℕ) → walk_from rows ps sum s ≡ all_good left plain → plain + left ≤ sum + length s
   walk-shorter [] sum s e =
       let x = walk-ended rows left plain sum s e in
       omega (arith, x.behind, x.total)
@@ -77,8 +75,8 @@ module _ (rows : ℕ → Row) (left plain : ℕ) where
       omega (arith, walk-shorter ps (sum + x.plain-length) (drop x.taken s) x.on, length-drop x.taken s)
 
   -- of a body
-  pub fields-most : (m body : List ℕ) → walk_of rows m body ≡ Done left plain → length body ≤ left + most_from rows map_positions 0
+  pub fields-most : (m body : List ℕ) → walk_of rows m body ≡ all_good left plain → length body ≤ left + most_from rows map_positions 0
   fields-most m body e = walk-most m map_positions 0 0 body (walk-whole rows m body ∙ e)
 
-  pub fields-shorter : (m body : List ℕ) → walk_of rows m body ≡ Done left plain → plain + left ≤ length body
+  pub fields-shorter : (m body : List ℕ) → walk_of rows m body ≡ all_good left plain → plain + left ≤ length body
   fields-shorter m body e = omega (arith, walk-shorter (positions m map_positions 0) 0 body (walk-whole rows m body ∙ e))

@@ -17,6 +17,7 @@ use Rattle.tables.specs.Dictionary.{sort_of}
 use Rattle.tables.specs.Tables.{row_of}
 use Rattle.wire.specs.Text.{fixed_text, fixed_part, fixed_bytes}
 use Rattle.fields.specs.declared.check.Checked.{Checked}
+use Rattle.fields.specs.declared.check.Reason.{Reason}
 use Rattle.fields.specs.declared.check.Shape.{Shape}
 use Rattle.fields.specs.declared.check.Shape.TheVariants.{Number, Decimal, Fixed, Other}
 use Rattle.fields.specs.declared.value.Value.{Value}
@@ -29,14 +30,14 @@ use Rattle.fields.specs.Shapes.{shape_in, shape_of, shape_at}
 use Rattle.fields.specs.Value.{number_value, decimal_value, text_value, sort_value, field_value, row_value}
 
 -- what a row says of the field at the front of s, which the map has
-pub record Told (row : Row) (s : List ℕ) (c : Checked) (n : ℕ) (x : List ℕ) (v : Result Value NoValue) : Type 0 where
+pub record Told (row : Row) (s : List ℕ) (c : Result Checked Reason) (n : ℕ) (x : List ℕ) (v : Result Value NoValue) : Type 0 where
   pub check : check_row row s ≡ c
   pub taken : extent_of row s ≡ n
   pub plain : plain_row row s ≡ x
   pub value : row_value row true s ≡ v
 
 -- and a sort
-record Sorted (sort : Sort) (s : List ℕ) (c : Checked) (n : ℕ) (x : List ℕ) (v : Result Value NoValue) : Type 0 where
+record Sorted (sort : Sort) (s : List ℕ) (c : Result Checked Reason) (n : ℕ) (x : List ℕ) (v : Result Value NoValue) : Type 0 where
   check : check_sort sort s ≡ c
   taken : extent sort s ≡ n
   plain : plain_sort sort s ≡ x
@@ -104,7 +105,7 @@ sort-fixed (sort.Fixed a v) s allowed w h =
 sort-fixed (sort.Variable a v) s allowed w h = fixed-other (sym h)
 
 -- a row that names a field says what the field's sort says
-module _ (s : List ℕ) (c : Checked) (n : ℕ) (x : List ℕ) (v : Result Value NoValue) where
+module _ (s : List ℕ) (c : Result Checked Reason) (n : ℕ) (x : List ℕ) (v : Result Value NoValue) where
   of-required : (f : Field) → Sorted (sort_of f) s c n x v → Told (Required f) s c n x v
   unfolding check_row extent_of plain_row row_value field_value
   of-required f g = record { check = g.check; taken = g.taken; plain = g.plain; value = g.value }

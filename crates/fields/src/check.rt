@@ -9,76 +9,76 @@ use tables::dictionary::{NO, Sort, YES, sort_of};
 use tables::table::{EXECUTION_REPORT, Row, row_of};
 use wire::text::{Allowed, Text, fixed_text, variable_text};
 
-// Why a field is bad: document 01 has one refusal for all.
-#[derive(Clone, Copy)]
+// Why a field is bad, as it overruns the bytes, is no text, or is neither 'Y' nor 'N' where it must be: document 01 has one
+// refusal for all.
+#[derive(Clone, Copy, PartialEq, Eq, Debug)]
 pub enum Reason {
     Field,
 }
 
-// How many bytes a field takes, and how many its plain form takes; or that it overruns the bytes, is no text, or is
-// neither 'Y' nor 'N' where it must be.
-#[derive(Clone, Copy)]
-pub enum Checked {
-    Good { taken: usize, plain: usize },
-    Bad(Reason),
+// How many bytes a good field takes, and how many its plain form takes.
+#[derive(Clone, Copy, PartialEq, Eq, Debug)]
+pub struct Checked {
+    pub taken: usize,
+    pub plain: usize,
 }
 
-fn check_whole(width: usize, s: &[u8]) -> Checked
+fn check_whole(width: usize, s: &[u8]) -> Result<Checked, Reason>
     ensures { result ≡ whole width s.now }
 {
     if s.len() < width {
-        return Checked::Bad(Reason::Field);
+        return Err(Reason::Field);
     }
-    Checked::Good {
+    Ok(Checked {
         taken: width,
         plain: width,
-    }
+    })
 }
 
-fn check_yes_no(s: &[u8]) -> Checked
+fn check_yes_no(s: &[u8]) -> Result<Checked, Reason>
     ensures { result ≡ yes_no s.now }
 {
     if s.len() == 0 {
-        return Checked::Bad(Reason::Field);
+        return Err(Reason::Field);
     }
     let b = s[0];
     match b {
-        YES => Checked::Good { taken: 1, plain: 1 },
-        NO => Checked::Good { taken: 1, plain: 1 },
-        _ => Checked::Bad(Reason::Field),
+        YES => Ok(Checked { taken: 1, plain: 1 }),
+        NO => Ok(Checked { taken: 1, plain: 1 }),
+        _ => Err(Reason::Field),
     }
 }
 
-fn check_fixed(allowed: Allowed, width: usize, s: &[u8]) -> Checked
+fn check_fixed(allowed: Allowed, width: usize, s: &[u8]) -> Result<Checked, Reason>
     ensures { result ≡ fixed allowed width s.now }
 {
     match fixed_text(allowed, width, s) {
         Text::Good {
             characters: _,
             taken,
-        } => Checked::Good {
+        } => Ok(Checked {
             taken,
             plain: taken,
-        },
-        Text::Bad => Checked::Bad(Reason::Field),
+        }),
+        Text::Bad => Err(Reason::Field),
     }
 }
 
 // The plain form of a variable text has two bytes of length, its characters and the null.
-fn check_variable(allowed: Allowed, size: usize, s: &[u8]) -> Checked
+fn check_variable(allowed: Allowed, size: usize, s: &[u8]) -> Result<Checked, Reason>
     ensures { result ≡ variable allowed size s.now }
 {
     match variable_text(allowed, size, s) {
-        Text::Good { characters, taken } => Checked::Good {
+        Text::Good { characters, taken } => Ok(Checked {
             taken,
             plain: characters + 3,
-        },
-        Text::Bad => Checked::Bad(Reason::Field),
+        }),
+        Text::Bad => Err(Reason::Field),
     }
 }
 
 // A field of this sort at the front of s.
-fn check_sort(sort: Sort, s: &[u8]) -> Checked
+fn check_sort(sort: Sort, s: &[u8]) -> Result<Checked, Reason>
     ensures { result ≡ check_sort sort s.now }
 {
     match sort {
@@ -92,25 +92,25 @@ fn check_sort(sort: Sort, s: &[u8]) -> Checked
 }
 
 // The field that stands at position p in a message of this type, by its name and the dictionary.
-pub(crate) fn check_row(messagetype: u8, p: usize, s: &[u8]) -> Checked
+pub(crate) fn check_row(messagetype: u8, p: usize, s: &[u8]) -> Result<Checked, Reason>
     ensures { result ≡ check_row (row_of messagetype p) s.now }
 {
     match row_of(messagetype, p) {
         Row::Required(field) => check_sort(sort_of(field), s),
         Row::Optional(field) => check_sort(sort_of(field), s),
-        Row::UnknownPosition => Checked::Bad(Reason::Field),
-        Row::UnknownType => Checked::Bad(Reason::Field),
+        Row::UnknownPosition => Err(Reason::Field),
+        Row::UnknownType => Err(Reason::Field),
     }
 }
 
 // The same, each in a frame of its own: what is lent is then stored only where this way is taken.
-fn check_other(p: usize, s: &[u8]) -> Checked
+fn check_other(p: usize, s: &[u8]) -> Result<Checked, Reason>
     ensures { result ≡ check_row (row_of execution_report_type p) s.now }
 {
     check_row(EXECUTION_REPORT, p, s)
 }
 
-fn check_named(messagetype: u8, p: usize, s: &[u8]) -> Checked
+fn check_named(messagetype: u8, p: usize, s: &[u8]) -> Result<Checked, Reason>
     ensures { result ≡ check_row (row_of messagetype p) s.now }
 {
     check_row(messagetype, p, s)
@@ -181,7 +181,7 @@ pub fn shape_at(messagetype: u8, p: usize) -> Shape
     Shape::Other
 }
 
-fn check_report(p: usize, s: &[u8]) -> Checked
+fn check_report(p: usize, s: &[u8]) -> Result<Checked, Reason>
     ensures { result ≡ check_row (row_of execution_report_type p) s.now }
 {
     match report_shape(p) {
@@ -194,7 +194,7 @@ fn check_report(p: usize, s: &[u8]) -> Checked
 
 // The field that stands at position p in a message of this type, at the front of s. A position that the type does
 // not know holds no good field.
-pub(crate) fn check_at(messagetype: u8, p: usize, s: &[u8]) -> Checked
+pub(crate) fn check_at(messagetype: u8, p: usize, s: &[u8]) -> Result<Checked, Reason>
     ensures { result ≡ check_row (row_of messagetype p) s.now }
 {
     if messagetype == EXECUTION_REPORT {

@@ -19,6 +19,8 @@ use Rattle.calls.proofs.CallLaws.{call-keeps}
 use Rattle.line.specs.declared.line.Line.{Line}
 use Rattle.line.specs.declared.line.LineCode.{LineCode}
 use Rattle.line.specs.declared.line.LineMade.{LineMade}
+use Rattle.line.specs.declared.tick.Own.{Own}
+use Rattle.line.specs.declared.tick.Own.TheVariants as own
 use Rattle.line.specs.declared.tick.Ticked.{Ticked}
 use Rattle.line.specs.Line.{
   least_interval,
@@ -99,18 +101,18 @@ timed-stands l t k =
     record { interval = k.interval; sent = omega (arith, k.sent); heard = omega (arith, k.heard); rests = k.rests }
 
 -- and a Live one that has sent a message
-tested-stands : (test : Bool) (l : Line) → l.session.state ≡ Live → Stands l → Stands (tested_line test l)
+tested-stands : (x : Own) (l : Line) → l.session.state ≡ Live → Stands l → Stands (tested_line x l)
 unfolding tested_line
-tested-stands test l e k = record {
+tested-stands x l e k = record {
   interval = k.interval;
   sent = k.sent;
   heard = k.heard;
   rests = λ f. absurd (other-state l.session.state f e);
 }
 
-sent-stands : (test : Bool) (l : Line) (t : ℕ) → l.session.state ≡ Live → (l.session.own ≡ last → ⊥) → Stands l → Stands (sent_line test l t)
+sent-stands : (x : Own) (l : Line) (t : ℕ) → l.session.state ≡ Live → (l.session.own ≡ last → ⊥) → Stands l → Stands (sent_line x l t)
 unfolding moved_line
-sent-stands test l t e o k = tested-stands test _ (own-state l.session e o) (moved-stands l t (own_number l.session).session false true k)
+sent-stands x l t e o k = tested-stands x _ (own-state l.session e o) (moved-stands l t (own_number l.session).session false true k)
 
 tick-stands : (l : Line) (t : ℕ) → Stands l → Stands (tick l t).line
 unfolding drop_line
@@ -119,8 +121,8 @@ tick-stands l t k = go (tick l t) (acted l t)
     go : (x : Ticked) → Acted l t x → Stands x.line
     go x (nothing q) = timed-stands l t k
     go x (down e d) = moved-stands l t (drop l.session) false false k
-    go x (test-request e f g u o) = sent-stands true l t e o k
-    go x (heartbeat e f u b o) = sent-stands false l t e o k
+    go x (test-request e f g u o) = sent-stands own.TestRequest l t e o k
+    go x (heartbeat e f u b o) = sent-stands own.Heartbeat l t e o k
     go x (no_number e f g o) = moved-stands l t (drop l.session) false false k
 
 -- whatever happens keeps it so

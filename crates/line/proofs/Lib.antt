@@ -6,3 +6,4 @@ pub mod SilenceLaws
 pub mod ManyLaws
 pub mod TurnLaws
 pub mod WorkedSilence
+pub mod SumLaws

@@ -9,26 +9,25 @@ use borrow.Author.Tests.{ltb-true, ltb-false, leb-true, leb-false}
 use Rattle.wire.proofs.TestLaws.{either}
 use Rattle.session.specs.declared.state.State.TheVariants.{Live}
 use Rattle.line.specs.declared.line.Line.{Line}
-use Rattle.line.specs.declared.tick.NextTick.{NextTick}
-use Rattle.line.specs.declared.tick.NextTick.TheVariants as next
+use Rattle.std.specs.Prelude.{Option, Some, None}
 use Rattle.line.specs.Line.{later, is_live}
 use Rattle.line.specs.Tick.{to_test_request, to_down, wait, most_time, at_time, earlier, not_before, silence_due, next_tick}
 use Rattle.line.specs.Course.{NothingDue, Rests, NextAt}
 use Rattle.line.proofs.TickLaws.{later-least, later-given, later-within, before-later, live_state, other-state, not-due-rests, rests-not-due}
 
 -- the earlier of two times, if it has 64 bits
-data Earliest (a b : ℕ) : NextTick → Type 0 where
-  one : (c : ℕ) → c ≤ a → c ≤ b → ((n : ℕ) → n < a → n < b → n < c) → c ≤ most_time → Earliest a b (next.At c)
-  neither : most_time < a → most_time < b → Earliest a b next.Never
+data Earliest (a b : ℕ) : Option ℕ → Type 0 where
+  one : (c : ℕ) → c ≤ a → c ≤ b → ((n : ℕ) → n < a → n < b → n < c) → c ≤ most_time → Earliest a b (Some c)
+  neither : most_time < a → most_time < b → Earliest a b None
 
 earliest : (a b : ℕ) → Earliest a b (earlier (at_time a) (at_time b))
 unfolding earlier at_time
 earliest a b =
-    either (λ (x : NextTick). Earliest a b (earlier x (at_time b))) (leb a most_time)
+    either (λ (x : Option ℕ). Earliest a b (earlier x (at_time b))) (leb a most_time)
     (λ u. let h = leb-true a most_time u in
-    either (λ (y : NextTick). Earliest a b (earlier (next.At a) y)) (leb b most_time)
+    either (λ (y : Option ℕ). Earliest a b (earlier (Some a) y)) (leb b most_time)
     (λ v. let g = leb-true b most_time v in
-    either (λ (c : ℕ). Earliest a b (next.At c)) (ltb b a)
+    either (λ (c : ℕ). Earliest a b (Some c)) (ltb b a)
     (λ w. let f = ltb-true b a w in one b (omega arith) (omega arith) (λ n i j. j) g)
     (λ w. let f = ltb-false b a w in one a (omega arith) f (λ n i j. i) h))
     (λ v. let g = leb-false b most_time v in one a (omega arith) (omega arith) (λ n i j. i) h))
@@ -58,7 +57,7 @@ not-due-silence l n q = go l.tested refl
 module _ (l : Line) where
   -- the time that it says, of a Live line
   module _ (m : ℕ) (live : l.session.state ≡ Live) where
-    next-live : (x : NextTick) → Earliest (silence_due l) (l.sent + wait l) x → not_before l.now x ≡ next.At m → NextAt l m
+    next-live : (x : Option ℕ) → Earliest (silence_due l) (l.sent + wait l) x → not_before l.now x ≡ Some m → NextAt l m
     unfolding not_before
     next-live x (one c p q f h) e =
         let k : later l.now c ≡ m = cc in
@@ -78,23 +77,23 @@ module _ (l : Line) where
     next-live x (neither p q) e = let z : ◌≡◌ {A = ℕ} 0 1 = cc in absurd (omega arith)
 
   -- the next tick is due at the earliest time at which a tick does something
-  pub next-at : (m : ℕ) → next_tick l ≡ next.At m → NextAt l m
+  pub next-at : (m : ℕ) → next_tick l ≡ Some m → NextAt l m
   unfolding next_tick
   next-at m =
-      either (λ (x : NextTick). x ≡ next.At m → NextAt l m) (is_live l.session.state)
+      either (λ (x : Option ℕ). x ≡ Some m → NextAt l m) (is_live l.session.state)
       (λ u. next-live m (live_state l.session.state u) _ (earliest (silence_due l) (l.sent + wait l)))
       (λ u e. let z : ◌≡◌ {A = ℕ} 0 1 = cc in absurd (omega arith))
 
-  never-live : (x : NextTick) → Earliest (silence_due l) (l.sent + wait l) x → not_before l.now x ≡ next.Never
+  never-live : (x : Option ℕ) → Earliest (silence_due l) (l.sent + wait l) x → not_before l.now x ≡ None
       → (t : ℕ) → later l.now t ≤ most_time → Rests l t
   unfolding not_before
   never-live x (one c p q f h) e t i = let z : ◌≡◌ {A = ℕ} 0 1 = cc in absurd (omega arith)
   never-live x (neither p q) e t i = not-due-rests l t (λ s. not-due-before l (later l.now t) (omega arith) (omega arith))
 
   -- and none is due where no tick of 64 bits does anything
-  pub next-never : next_tick l ≡ next.Never → (t : ℕ) → later l.now t ≤ most_time → Rests l t
+  pub next-never : next_tick l ≡ None → (t : ℕ) → later l.now t ≤ most_time → Rests l t
   unfolding next_tick
   next-never =
-      either (λ (x : NextTick). x ≡ next.Never → (t : ℕ) → later l.now t ≤ most_time → Rests l t) (is_live l.session.state)
+      either (λ (x : Option ℕ). x ≡ None → (t : ℕ) → later l.now t ≤ most_time → Rests l t) (is_live l.session.state)
       (λ u. never-live _ (earliest (silence_due l) (l.sent + wait l)))
       (λ u e t i. not-due-rests l t (λ s. absurd (other-state l.session.state u s)))

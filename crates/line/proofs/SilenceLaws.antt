@@ -2,7 +2,6 @@
 -- intervals of when it last heard, where ticks come at least once an interval.
 use Prim.Native.Nat.{ℕ, ◌+◌, ◌*◌, ◌<◌, ◌≤◌}
 use mathlib.Core.Path.{◌≡◌, refl, sym, ap, subst, ◌∙◌}
-use mathlib.Core.Bool.{true, false}
 use mathlib.Core.List.{List, [], ◌∷◌}
 use native.Mathlib.Omega.{arith}
 use Rattle.session.specs.declared.state.Session.{Session}
@@ -12,6 +11,7 @@ use Rattle.session.specs.Day.{not_connected, connect_in, connect, drop}
 use Rattle.calls.specs.Steps.{steps, report_of}
 use Rattle.calls.proofs.CallLaws.{call-keeps}
 use Rattle.line.specs.declared.line.Line.{Line}
+use Rattle.line.specs.declared.tick.Own.TheVariants as own
 use Rattle.line.specs.declared.tick.Ticked.{Ticked}
 use Rattle.line.specs.Line.{later, moved_line, connect_line, drop_line, step_line, steps_line}
 use Rattle.line.specs.Tick.{second, to_down, wait, timed, tested_line, tick}
@@ -88,8 +88,8 @@ tick-left l t s = go (tick l t) (acted l t)
     go : (x : Ticked) → Acted l t x → Left l (later l.now t) x.line
     go x (nothing q) = silent s refl (q s).down
     go x (down e d) = gone refl
-    go x (test-request e f g u o) = silent (sent-live true l t e o) (sent-heard true l t e o) f
-    go x (heartbeat e f u b o) = silent (sent-live false l t e o) (sent-heard false l t e o) f
+    go x (test-request e f g u o) = silent (sent-live own.TestRequest l t e o) (sent-heard own.TestRequest l t e o) f
+    go x (heartbeat e f u b o) = silent (sent-live own.Heartbeat l t e o) (sent-heard own.Heartbeat l t e o) f
     go x (no_number e f g o) = gone refl
 
 -- Connect is refused where it is Live

@@ -8,7 +8,6 @@ use mathlib.Core.Logic.{inl, inr}
 use native.Mathlib.Omega.{arith}
 use lib.Dec.{eqb, leb, ltb}
 use borrow.Author.Tests.{ltb-true, ltb-false, leb-true, leb-false, eqb-true, eqb-false, eq-eqb, ne_eqb, not-true}
-use Rattle.std.specs.Prelude.{Some, None}
 use Rattle.wire.proofs.TestLaws.{either, and-true}
 use Rattle.session.specs.declared.day.Owned.{Owned}
 use Rattle.session.specs.declared.state.Fault.TheVariants.{Halted}
@@ -24,7 +23,10 @@ use Rattle.line.specs.declared.line.Line.{Line}
 use Rattle.line.specs.declared.tick.Act.TheVariants as act
 use Rattle.line.specs.declared.tick.Due.{Due}
 use Rattle.line.specs.declared.tick.Due.TheVariants as due
+use Rattle.line.specs.declared.tick.Own.{Own}
+use Rattle.line.specs.declared.tick.Own.TheVariants as own
 use Rattle.line.specs.declared.tick.Ticked.{Ticked}
+use Rattle.std.specs.Prelude.{Option, Some, None}
 use Rattle.line.specs.Line.{later, is_live, goes_on, wait_since, moved_line, connect_line, drop_line, step_line, steps_line}
 use Rattle.line.specs.Tick.{
   to_test_request,
@@ -35,6 +37,7 @@ use Rattle.line.specs.Tick.{
   due_live,
   due_at,
   timed,
+  is_test,
   tested_line,
   says,
   own_act,
@@ -129,28 +132,28 @@ pub own-state : (s : Session) → s.state ≡ Live → (s.own ≡ last → ⊥) 
 own-state s e h = ap (λ (o : Owned). o.session.state) (own-given s e h)
 
 -- a message with a number
-given-message : (test : Bool) (l : Line) (t : ℕ) → l.session.state ≡ Live → (l.session.own ≡ last → ⊥)
-    → numbered test l t (own_number l.session) ≡ says (sent_line test l t) None (own_act test l.session.own)
+given-message : (x : Own) (l : Line) (t : ℕ) → l.session.state ≡ Live → (l.session.own ≡ last → ⊥)
+    → numbered x l t (own_number l.session) ≡ says (sent_line x l t) None (Some (own_act x l.session.own))
 unfolding numbered code_number
-given-message test l t e h =
+given-message x l t e h =
     let g = own-given l.session e h in
     rw (ap (λ (o : Owned). o.code) g, ap (λ (o : Owned). o.number) g)
 
 -- and one without
-spent-message : (test : Bool) (l : Line) (t : ℕ) → l.session.state ≡ Live → l.session.own ≡ last
-    → numbered test l t (own_number l.session) ≡ says (drop_line l t) (Some (Halted NoNumber)) act.Nothing
+spent-message : (x : Own) (l : Line) (t : ℕ) → l.session.state ≡ Live → l.session.own ≡ last
+    → numbered x l t (own_number l.session) ≡ says (drop_line l t) (Some (Halted NoNumber)) None
 unfolding numbered code_number halt_number drop_line not_owned
-spent-message test l t e h = ap (numbered test l t) (own-spent l.session e h)
+spent-message x l t e h = ap (numbered x l t) (own-spent l.session e h)
 
 -- a message that is due has a number, or there is none
-message : (test : Bool) (l : Line) (t : ℕ) → l.session.state ≡ Live
-    → ((l.session.own ≡ last → ⊥) → Acted l t (says (sent_line test l t) None (own_act test l.session.own)))
-    → (l.session.own ≡ last → Acted l t (says (drop_line l t) (Some (Halted NoNumber)) act.Nothing)) → Acted l t (numbered test l t (own_number l.session))
-message test l t e given spent = go (eqb l.session.own last) refl
+message : (x : Own) (l : Line) (t : ℕ) → l.session.state ≡ Live
+    → ((l.session.own ≡ last → ⊥) → Acted l t (says (sent_line x l t) None (Some (own_act x l.session.own))))
+    → (l.session.own ≡ last → Acted l t (says (drop_line l t) (Some (Halted NoNumber)) None)) → Acted l t (numbered x l t (own_number l.session))
+message x l t e given spent = go (eqb l.session.own last) refl
   where
-    go : (b : Bool) → eqb l.session.own last ≡ b → Acted l t (numbered test l t (own_number l.session))
-    go true u = let h = eqb-true l.session.own last u in subst (Acted l t) (sym (spent-message test l t e h)) (spent h)
-    go false u = let h = eqb-false l.session.own last u in subst (Acted l t) (sym (given-message test l t e h)) (given h)
+    go : (b : Bool) → eqb l.session.own last ≡ b → Acted l t (numbered x l t (own_number l.session))
+    go true u = let h = eqb-true l.session.own last u in subst (Acted l t) (sym (spent-message x l t e h)) (spent h)
+    go false u = let h = eqb-false l.session.own last u in subst (Acted l t) (sym (given-message x l t e h)) (given h)
 
 -- a tick does at most one thing
 pub acted : (l : Line) (t : ℕ) → Acted l t (tick l t)
@@ -169,7 +172,7 @@ acted l t =
     n : ℕ
     n = later l.now t
 
-    P : Due → Type 0
+    P : Option Due → Type 0
     P d = Acted l t (tick_by d l t)
 
     untested : leb (l.heard + to_test_request * wait l) n && not l.tested ≡ false → l.tested ≡ false → n < l.heard + to_test_request * wait l
@@ -178,21 +181,21 @@ acted l t =
         leb-false (l.heard + to_test_request * wait l) n (sym (and_so c) ∙ ap (λ (x : Bool). c && not x) (sym e) ∙ b)
 
     test : l.session.state ≡ Live → n < l.heard + to_down * wait l
-        → (leb (l.heard + to_test_request * wait l) n ≡ true) × (not l.tested ≡ true) → P due.TestRequest
+        → (leb (l.heard + to_test_request * wait l) n ≡ true) × (not l.tested ≡ true) → P (Some (due.Message own.TestRequest))
     test e f b =
         let g = leb-true (l.heard + to_test_request * wait l) n b.0 in
         let u = not-true l.tested b.1 in
-        message true l t e (test-request e f g u) (no_number e f (inl (u, g)))
+        message own.TestRequest l t e (test-request e f g u) (no_number e f (inl (u, g)))
 
     beat : l.session.state ≡ Live → n < l.heard + to_down * wait l → (l.tested ≡ false → n < l.heard + to_test_request * wait l)
-        → l.sent + wait l ≤ n → P due.Heartbeat
-    beat e f u b = message false l t e (heartbeat e f u b) (no_number e f (inr b))
+        → l.sent + wait l ≤ n → P (Some (due.Message own.Heartbeat))
+    beat e f u b = message own.Heartbeat l t e (heartbeat e f u b) (no_number e f (inr b))
 
 -- where none of the three is due, a tick does nothing, and where it does nothing, none is due
 pub not-due-rests : (l : Line) (t : ℕ) → (l.session.state ≡ Live → NothingDue l (later l.now t)) → Rests l t
 not-due-rests l t q = go (tick l t) (acted l t)
   where
-    go : (x : Ticked) → Acted l t x → x ≡ says (timed l t) None act.Nothing
+    go : (x : Ticked) → Acted l t x → x ≡ says (timed l t) None None
     go x (nothing h) = refl
     go x (down e d) = absurd (omega (arith, (q e).down))
     go x (test-request e f g u o) = absurd (omega (arith, (q e).test u))
@@ -203,7 +206,7 @@ not-due-rests l t q = go (tick l t) (acted l t)
 pub rests-not-due : (l : Line) (t : ℕ) → Rests l t → l.session.state ≡ Live → NothingDue l (later l.now t)
 rests-not-due l t r = go (tick l t) (acted l t) (ap (λ (x : Ticked). x.act) r) (ap (λ (x : Ticked). x.code) r)
   where
-    go : (x : Ticked) → Acted l t x → x.act ≡ act.Nothing → x.code ≡ None → l.session.state ≡ Live → NothingDue l (later l.now t)
+    go : (x : Ticked) → Acted l t x → x.act ≡ None → x.code ≡ None → l.session.state ≡ Live → NothingDue l (later l.now t)
     go x (nothing h) a c = h
     go x (down e d) a c = let z : ◌≡◌ {A = ℕ} 0 1 = cc in absurd (omega arith)
     go x (test-request e f g u o) a c = let z : ◌≡◌ {A = ℕ} 0 1 = cc in absurd (omega arith)
@@ -211,20 +214,20 @@ rests-not-due l t r = go (tick l t) (acted l t) (ap (λ (x : Ticked). x.act) r) 
     go x (no_number e f g o) a c = let z : ◌≡◌ {A = ℕ} 0 1 = cc in absurd (omega arith)
 
 -- a line that has sent a message: it is Live, its silence goes on, and the next Heartbeat is an interval away
-module _ (test : Bool) (l : Line) (t : ℕ) (e : l.session.state ≡ Live) (o : l.session.own ≡ last → ⊥) where
-  pub sent-live : (sent_line test l t).session.state ≡ Live
+module _ (x : Own) (l : Line) (t : ℕ) (e : l.session.state ≡ Live) (o : l.session.own ≡ last → ⊥) where
+  pub sent-live : (sent_line x l t).session.state ≡ Live
   unfolding tested_line moved_line
   sent-live = own-state l.session e o
 
-  pub sent-heard : (sent_line test l t).heard ≡ l.heard
+  pub sent-heard : (sent_line x l t).heard ≡ l.heard
   unfolding tested_line moved_line goes_on wait_since
   sent-heard = rw (state-live _ e, state-live _ (own-state l.session e o))
 
-  pub sent-tested : (sent_line test l t).tested ≡ test || l.tested
+  pub sent-tested : (sent_line x l t).tested ≡ is_test x || l.tested
   unfolding tested_line moved_line goes_on wait_since
   sent-tested = rw (state-live _ e, state-live _ (own-state l.session e o))
 
-  pub sent-now : (sent_line test l t).sent ≡ later l.now t
+  pub sent-now : (sent_line x l t).sent ≡ later l.now t
   unfolding tested_line moved_line goes_on wait_since
   sent-now = rw (state-live _ e, state-live _ (own-state l.session e o))
 
@@ -245,7 +248,7 @@ tick-again l t = ap (λ (n : ℕ). later n t) (tick-now l t) ∙ later-again l.n
 
 -- a second tick at the same time does nothing
 pub second-tick : (l : Line) (t : ℕ) → 1 ≤ l.interval → Rests (tick l t).line t
-unfolding timed drop_line tested_line moved_line drop wait
+unfolding timed drop_line tested_line is_test moved_line drop wait
 second-tick l t i =
     not-due-rests (tick l t).line t (λ s. subst (NothingDue (tick l t).line) (sym (tick-again l t)) (go (tick l t) (acted l t) s))
   where
@@ -253,14 +256,14 @@ second-tick l t i =
     go x (nothing q) s = record { down = (q s).down; test = (q s).test; beat = (q s).beat }
     go x (down e d) s = absurd (down-other refl s)
     go x (test-request e f g u o) s = record {
-      down = omega (arith, sent-heard true l t e o);
+      down = omega (arith, sent-heard own.TestRequest l t e o);
       test = λ h. let z : ◌≡◌ {A = ℕ} 0 1 = cc in absurd (omega arith);
-      beat = omega (arith, sent-now true l t e o);
+      beat = omega (arith, sent-now own.TestRequest l t e o);
     }
     go x (heartbeat e f u b o) s = record {
-      down = omega (arith, sent-heard false l t e o);
-      test = λ h. omega (arith, sent-heard false l t e o, u (sym (sent-tested false l t e o) ∙ h));
-      beat = omega (arith, sent-now false l t e o);
+      down = omega (arith, sent-heard own.Heartbeat l t e o);
+      test = λ h. omega (arith, sent-heard own.Heartbeat l t e o, u (sym (sent-tested own.Heartbeat l t e o) ∙ h));
+      beat = omega (arith, sent-now own.Heartbeat l t e o);
     }
     go x (no_number e f g o) s = absurd (down-other refl s)
 
@@ -335,10 +338,10 @@ module _ (l : Line) (t : ℕ) where
   steps-answer b r q = (refl, refl, refl, refl, refl)
 
 -- before three intervals have passed without hearing, a tick does not put the line Down
-pub never-down : (l : Line) (t : ℕ) → (l.session.state ≡ Live → later l.now t < l.heard + to_down * wait l) → (tick l t).act ≡ act.Down → ⊥
+pub never-down : (l : Line) (t : ℕ) → (l.session.state ≡ Live → later l.now t < l.heard + to_down * wait l) → (tick l t).act ≡ Some act.Down → ⊥
 never-down l t h = go (tick l t) (acted l t)
   where
-    go : (x : Ticked) → Acted l t x → x.act ≡ act.Down → ⊥
+    go : (x : Ticked) → Acted l t x → x.act ≡ Some act.Down → ⊥
     go x (nothing q) a = let z : ◌≡◌ {A = ℕ} 0 1 = cc in omega arith
     go x (down e d) a = omega (arith, h e)
     go x (test-request e f g u o) a = let z : ◌≡◌ {A = ℕ} 0 1 = cc in omega arith
@@ -366,6 +369,6 @@ stays-live l t s h n = go (tick l t) (acted l t)
     go : (x : Ticked) → Acted l t x → x.line.session.state ≡ Live
     go x (nothing q) = s
     go x (down e d) = absurd (omega arith)
-    go x (test-request e f g u o) = sent-live true l t e o
-    go x (heartbeat e f u b o) = sent-live false l t e o
+    go x (test-request e f g u o) = sent-live own.TestRequest l t e o
+    go x (heartbeat e f u b o) = sent-live own.Heartbeat l t e o
     go x (no_number e f g o) = absurd (n o)

@@ -1,6 +1,7 @@
 -- A worked silence: what the law of four intervals supposes can be met. A Live line with an interval of a second heard and sent at time 0. It is ticked
 -- at 1,000, 2,000 and 3,000 milliseconds, and between the first two a step is lent no bytes, which hears nothing.
 use Prim.Native.Nat.{◌+◌, ◌≤◌}
+use Rattle.std.specs.Prelude.{Some}
 use mathlib.Core.Path.{◌≡◌, refl}
 use mathlib.Core.Bool.{false}
 use mathlib.Core.List.{List, [], ◌∷◌}
@@ -18,7 +19,7 @@ use Rattle.line.specs.declared.line.Line.{Line}
 use Rattle.line.specs.declared.tick.Act.TheVariants as act
 use Rattle.line.specs.Course.{Happening, lends, ticks, after_line, Silent, none, a-tick, other, DownBy}
 use Rattle.line.specs.Line.{later, is_live, goes_on, wait_since, moved_line, drop_line, is_any, step_line}
-use Rattle.line.specs.Tick.{wait, reached, due_by, due_live, due_at, tested_line, id_of, own_act, numbered, tick_by, tick}
+use Rattle.line.specs.Tick.{wait, reached, due_by, due_live, due_at, is_test, tested_line, id_of, own_act, numbered, tick_by, tick}
 use Rattle.line.proofs.SilenceLaws.{four-intervals}
 
 abbrev worked : Line
@@ -45,13 +46,13 @@ abbrev silence : List Happening
 silence = ticks 1000 ∷ lends 1500 [] ∷ ticks 2000 ∷ ticks 3000 ∷ []
 
 -- a Heartbeat at one second, a Test Request with its number for ID at two, and Down at three
-pub worked-acts : ((tick worked 1000).act ≡ act.Heartbeat 2) × ((tick lent 2000).act ≡ act.TestRequest 3 3) × ((tick asked 3000).act ≡ act.Down)
-unfolding after_line tick tick_by due_at due_live due_by reached wait later is_live numbered own_act id_of own_number own_number_in code_number tested_line moved_line
+pub worked-acts : ((tick worked 1000).act ≡ Some (act.Heartbeat 2)) × ((tick lent 2000).act ≡ Some (act.TestRequest 3 3)) × ((tick asked 3000).act ≡ Some act.Down)
+unfolding after_line tick tick_by due_at due_live due_by reached wait later is_live numbered own_act id_of own_number own_number_in code_number tested_line is_test moved_line
     goes_on wait_since step_line step step_by step_in arrived arrival_by refused unmoved read_of read_framed framed number_of is_heard is_any told repeats_at
 worked-acts = (refl, refl, refl)
 
 pub worked-silent : Silent (wait worked) worked 0 silence 3000
-unfolding after_line tick tick_by due_at due_live due_by reached wait later is_live numbered own_act id_of own_number own_number_in code_number tested_line moved_line
+unfolding after_line tick tick_by due_at due_live due_by reached wait later is_live numbered own_act id_of own_number own_number_in code_number tested_line is_test moved_line
     goes_on wait_since step_line step step_by step_in arrived arrival_by refused unmoved read_of read_framed framed number_of is_heard is_any told repeats_at drop_line drop
 worked-silent =
     let first : later 0 1000 ≤ 0 + 1000 = omega arith in

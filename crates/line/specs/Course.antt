@@ -1,5 +1,5 @@
 -- What the laws of a line speak of (document 02, item 2); `proofs/` has the laws, and `demands` those of demand 3.
-use Rattle.std.specs.Prelude.{ℕ, zero, suc, ◌+◌, ◌*◌, ◌<◌, ◌≤◌, Bool, true, false, ◌≡◌, List, [], ◌∷◌, ◌++◌, ◌⊎◌, drop, Some, None}
+use Rattle.std.specs.Prelude.{ℕ, zero, suc, ◌+◌, ◌*◌, ◌<◌, ◌≤◌, true, false, ◌≡◌, List, [], ◌∷◌, ◌++◌, ◌⊎◌, drop, Some, None}
 use Rattle.message.specs.Frame.{front_length}
 use Rattle.session.specs.declared.state.Fault.TheVariants.{Halted}
 use Rattle.session.specs.declared.state.Halt.TheVariants.{NoNumber}
@@ -9,6 +9,8 @@ use Rattle.session.specs.Day as day
 use Rattle.session.specs.State.{last}
 use Rattle.line.specs.declared.line.Line.{Line}
 use Rattle.line.specs.declared.tick.Act.TheVariants as act
+use Rattle.line.specs.declared.tick.Own.{Own}
+use Rattle.line.specs.declared.tick.Own.TheVariants as own
 use Rattle.line.specs.declared.tick.Ticked.{Ticked}
 use Rattle.line.specs.Line.{is_interval, fresh_line, saved_line, later, is_live, moved_line, connect_line, drop_line, step_line, steps_line}
 use Rattle.line.specs.Tick.{to_test_request, to_down, wait, timed, tested_line, says, id_of, tick, most_time}
@@ -54,7 +56,7 @@ pub record Stands (l : Line) : Type 0 where
 
 -- a tick at this time does nothing: it takes the time, and nothing else changes or is said
 abbrev pub Rests : Line → ℕ → Type 0
-Rests l t = tick l t ≡ says (timed l t) None act.Nothing
+Rests l t = tick l t ≡ says (timed l t) None None
 
 -- of a Live line: none of the three is due at the time n
 pub record NothingDue (l : Line) (n : ℕ) : Type 0 where
@@ -63,23 +65,23 @@ pub record NothingDue (l : Line) (n : ℕ) : Type 0 where
   pub beat : n < l.sent + wait l
 
 -- the line after a message with a number of ours
-abbrev pub sent_line : Bool → Line → ℕ → Line
-sent_line test l t = tested_line test (moved_line l t (day.own_number l.session).session false true)
+abbrev pub sent_line : Own → Line → ℕ → Line
+sent_line x l t = tested_line x (moved_line l t (day.own_number l.session).session false true)
 
 -- all that a tick can answer, one of five, and what each comes of: nothing is due; Down; a Test Request; a Heartbeat; or a message is due and there is
 -- no number for it
 pub data Acted (l : Line) (t : ℕ) : Ticked → Type 0 where
-  nothing : (l.session.state ≡ Live → NothingDue l (later l.now t)) → Acted l t (says (timed l t) None act.Nothing)
-  down : l.session.state ≡ Live → l.heard + to_down * wait l ≤ later l.now t → Acted l t (says (drop_line l t) None act.Down)
+  nothing : (l.session.state ≡ Live → NothingDue l (later l.now t)) → Acted l t (says (timed l t) None None)
+  down : l.session.state ≡ Live → l.heard + to_down * wait l ≤ later l.now t → Acted l t (says (drop_line l t) None (Some act.Down))
   test-request : l.session.state ≡ Live → later l.now t < l.heard + to_down * wait l → l.heard + to_test_request * wait l ≤ later l.now t
       → l.tested ≡ false → (l.session.own ≡ last → ⊥)
-      → Acted l t (says (sent_line true l t) None (act.TestRequest l.session.own (id_of l.session.own)))
+      → Acted l t (says (sent_line own.TestRequest l t) None (Some (act.TestRequest l.session.own (id_of l.session.own))))
   heartbeat : l.session.state ≡ Live → later l.now t < l.heard + to_down * wait l
       → (l.tested ≡ false → later l.now t < l.heard + to_test_request * wait l) → l.sent + wait l ≤ later l.now t → (l.session.own ≡ last → ⊥)
-      → Acted l t (says (sent_line false l t) None (act.Heartbeat l.session.own))
+      → Acted l t (says (sent_line own.Heartbeat l t) None (Some (act.Heartbeat l.session.own)))
   no_number : l.session.state ≡ Live → later l.now t < l.heard + to_down * wait l
       → ((l.tested ≡ false) × (l.heard + to_test_request * wait l ≤ later l.now t)) ⊎ (l.sent + wait l ≤ later l.now t) → l.session.own ≡ last
-      → Acted l t (says (drop_line l t) (Some (Halted NoNumber)) act.Nothing)
+      → Acted l t (says (drop_line l t) (Some (Halted NoNumber)) None)
 
 -- a session after a tick: as it was, dropped, or with a number of ours used
 pub data Turns (s : Session) : Session → Type 0 where
@@ -121,7 +123,7 @@ pub data InTime (l : Line) : Happening → Type 0 where
 
 -- a silence puts it Down
 pub data PutsDown (l : Line) : Happening → Type 0 where
-  by-tick : {t : ℕ} → (tick l t).act ≡ act.Down → PutsDown l (ticks t)
+  by-tick : {t : ℕ} → (tick l t).act ≡ Some act.Down → PutsDown l (ticks t)
 
 -- all of them are so, each by the line that those before it leave
 pub data All (P : Line → Happening → Type 0) : Line → List Happening → Type 0 where

@@ -7,9 +7,7 @@ ghost use Rattle.line.specs.Line.{is_interval, line_number, quiet_line, not_a_li
 use calls::{Done, Ended, is_heard, steps};
 use message::read::Reading;
 use session::day::Made;
-use session::state::{
-    Answer, Fault, Halt, SEND_NONE, Send, Session, State, Stepped, code_number, told,
-};
+use session::state::{Answer, Fault, Halt, Send, Session, State, Stepped, code_number};
 
 // The least and the most seconds of an interval.
 const LEAST_INTERVAL: u32 = 1;
@@ -141,17 +139,13 @@ fn line_of(made: Made, interval: u32) -> LineMade
 pub(crate) fn later(now: u64, t: u64) -> u64
     ensures { result ≡ later now t }
 {
-    if t < now { now } else { t }
+    now.max(t)
 }
 
 pub(crate) fn is_live(state: State) -> bool
     ensures { result ≡ is_live state }
 {
-    match state {
-        State::Down => false,
-        State::Waiting => false,
-        State::Live => true,
-    }
+    matches!(state, State::Live)
 }
 
 // Whether a wait goes on: the session was Live and stays so, and nothing ended the wait.
@@ -175,7 +169,7 @@ fn wait_since(goes: bool, live: bool, n: u64, since: u64) -> u64
 fn is_any(send: Send) -> bool
     ensures { result ≡ is_any send }
 {
-    told(send).kind != SEND_NONE
+    !matches!(send, Send::Nothing)
 }
 
 // Whether a call of many messages sends any. One that is refused for want of slots says how many it needs, and sends none.
@@ -278,8 +272,7 @@ impl Line {
     pub(crate) fn moved(self, t: u64, session: Session, heard: bool, sent: bool) -> Line
         ensures { result ≡ moved_line self t session heard sent }
     {
-        let was = self.session;
-        let before = is_live(was.state());
+        let before = is_live(self.session.state());
         let after = is_live(session.state());
         let n = later(self.now, t);
         let silent = goes_on(before, after, heard);
@@ -298,17 +291,12 @@ impl Line {
     pub fn connect(self, t: u64, password: &[u8]) -> LineConnected
         ensures { result ≡ connect_line self t password.now }
     {
-        let was = self.session;
-        let connected = was.connect(password);
-        let session = connected.session;
-        let code = connected.code;
-        let number = connected.number;
-        let next = connected.next;
+        let connected = self.session.connect(password);
         LineConnected {
-            line: self.moved(t, session, false, false),
-            code,
-            number,
-            next,
+            line: self.moved(t, connected.session, false, false),
+            code: connected.code,
+            number: connected.number,
+            next: connected.next,
         }
     }
 
@@ -316,22 +304,17 @@ impl Line {
     pub fn drop(self, t: u64) -> Line
         ensures { result ≡ drop_line self t }
     {
-        let was = self.session;
-        self.moved(t, was.drop(), false, false)
+        self.moved(t, self.session.drop(), false, false)
     }
 
     fn stepped(self, t: u64, stepped: Stepped) -> LineStepped
         ensures { result ≡ stepped_line self t stepped }
     {
         let answer = stepped.answer;
-        let session = stepped.session;
-        let code = answer.code;
-        let first = answer.first;
-        let second = answer.second;
-        let heard = is_heard(code);
-        let sent = is_any(first) | is_any(second);
+        let heard = is_heard(answer.code);
+        let sent = is_any(answer.first) | is_any(answer.second);
         LineStepped {
-            line: self.moved(t, session, heard, sent),
+            line: self.moved(t, stepped.session, heard, sent),
             answer,
         }
     }
@@ -340,16 +323,14 @@ impl Line {
     pub fn step(self, t: u64, s: &[u8]) -> LineStepped
         ensures { result ≡ step_line self t s.now }
     {
-        let was = self.session;
-        self.stepped(t, was.step(s))
+        self.stepped(t, self.session.step(s))
     }
 
     // One step at time t on the message at the front of s, of which the reader has given this.
     pub fn step_by(self, t: u64, s: &[u8], reading: Reading) -> LineStepped
         ensures { result ≡ stepped_line self t (step_by self.session s.now reading) }
     {
-        let was = self.session;
-        self.stepped(t, was.step_by(s, reading))
+        self.stepped(t, self.session.step_by(s, reading))
     }
 
     // What was read at the front of s is taken at time t, where it is business in its turn. A step would do no more.
@@ -373,18 +354,14 @@ impl Line {
     pub fn steps(self, t: u64, s: &[u8], rows: &mut [u32], sends: &mut [u32]) -> LineDone
         ensures { LaysLine self t s.now rows.old sends.old result rows.new sends.new }
     {
-        let was = self.session;
-        let done = steps(was, s, rows, sends);
-        let session = done.session;
-        let code = done.code;
-        let ended = done.ended;
+        let done = steps(self.session, s, rows, sends);
         LineDone {
-            line: self.moved(t, session, done.heard, is_sending(done)),
-            code,
+            line: self.moved(t, done.session, done.heard, is_sending(done)),
+            code: done.code,
             used: done.used,
             rows: done.rows,
             sends: done.sends,
-            ended,
+            ended: done.ended,
         }
     }
 }

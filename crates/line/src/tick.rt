@@ -2,7 +2,7 @@
 ghost use Rattle.std.specs.Prelude.{◌≡◌, ◌+◌, ◌*◌, ◌≤◌};
 ghost use Rattle.session.specs.Day.{own_number};
 ghost use Rattle.session.specs.State.{last};
-ghost use Rattle.line.specs.Tick.{second, wait, reached, due_by, due_live, due_at, id_of, timed, tested_line, own_act, says, numbered, tick, at_time, earlier, not_before, silence_due, next_tick};
+ghost use Rattle.line.specs.Tick.{second, wait, reached, due_by, due_live, due_at, id_of, timed, tested_line, own_act, numbered, tick, at_time, earlier, silence_due, next_tick};
 
 use crate::line::{Line, is_live, later};
 use session::state::{Fault, code_number};
@@ -18,20 +18,24 @@ const DOWN: u64 = 3;
 // An ID has two bytes.
 const IDS: u32 = 65536;
 
-// What is due at a time.
+// A message of ours that no arrival asks for.
 #[derive(Clone, Copy)]
-enum Due {
-    Nothing,
-    Down,
+enum Own {
     TestRequest,
     Heartbeat,
 }
 
-// What a tick did: nothing; put the line Down; or a message to send, a Test Request with its number and its ID, or a Heartbeat
-// without ID with its number.
+// What is due at a time.
 #[derive(Clone, Copy)]
+enum Due {
+    Down,
+    Message(Own),
+}
+
+// What a tick did: it put the line Down; or a message to send, a Test Request with its number and its ID, or a Heartbeat without
+// ID with its number.
+#[derive(Clone, Copy, PartialEq, Eq, Debug)]
 pub enum Act {
-    Nothing,
     Down,
     TestRequest(u32, u16),
     Heartbeat(u32),
@@ -42,14 +46,7 @@ pub enum Act {
 pub struct Ticked {
     pub line: Line,
     pub code: Option<Fault>,
-    pub act: Act,
-}
-
-// When the next tick is due.
-#[derive(Clone, Copy)]
-pub enum NextTick {
-    At(u64),
-    Never,
+    pub act: Option<Act>,
 }
 
 // Whether a wait that began at `since` is over at n. The sum is never made, so that nothing overflows.
@@ -63,19 +60,19 @@ fn reached(since: u64, wait: u64, n: u64) -> bool
 }
 
 // The three in their order.
-fn due_by(down: bool, test: bool, beat: bool) -> Due
+fn due_by(down: bool, test: bool, beat: bool) -> Option<Due>
     ensures { result ≡ due_by down test beat }
 {
     if down {
-        return Due::Down;
+        return Some(Due::Down);
     }
     if test {
-        return Due::TestRequest;
+        return Some(Due::Message(Own::TestRequest));
     }
     if beat {
-        return Due::Heartbeat;
+        return Some(Due::Message(Own::Heartbeat));
     }
-    Due::Nothing
+    None
 }
 
 // The ID of a Test Request: its own number modulo 65,536.
@@ -85,54 +82,25 @@ pub fn id_of(n: u32) -> u16
     (n % IDS) as u16
 }
 
-fn own_act(test: bool, n: u32) -> Act
-    ensures { result ≡ own_act test n }
+fn own_act(own: Own, n: u32) -> Act
+    ensures { result ≡ own_act own n }
 {
-    if test {
-        return Act::TestRequest(n, id_of(n));
+    match own {
+        Own::TestRequest => Act::TestRequest(n, id_of(n)),
+        Own::Heartbeat => Act::Heartbeat(n),
     }
-    Act::Heartbeat(n)
 }
 
-fn says(line: Line, code: Option<Fault>, act: Act) -> Ticked
-    ensures { result ≡ says line code act }
-{
-    Ticked { line, code, act }
-}
-
-// The time so many milliseconds later, if it has 64 bits.
-fn at_time(since: u64, wait: u64) -> NextTick
-    ensures { result ≡ at_time (since + wait) }
-{
-    if u64::MAX - since < wait {
-        return NextTick::Never;
-    }
-    NextTick::At(since + wait)
-}
-
-fn earlier(one: NextTick, other: NextTick) -> NextTick
+// The earlier of two times, if there is one.
+fn earlier(one: Option<u64>, other: Option<u64>) -> Option<u64>
     ensures { result ≡ earlier one other }
 {
     match one {
-        NextTick::At(a) => match other {
-            NextTick::At(b) => {
-                if b < a {
-                    return NextTick::At(b);
-                }
-                NextTick::At(a)
-            }
-            NextTick::Never => NextTick::At(a),
+        Some(a) => match other {
+            Some(b) => Some(a.min(b)),
+            None => one,
         },
-        NextTick::Never => other,
-    }
-}
-
-fn not_before(n: u64, next: NextTick) -> NextTick
-    ensures { result ≡ not_before n next }
-{
-    match next {
-        NextTick::At(t) => NextTick::At(later(n, t)),
-        NextTick::Never => NextTick::Never,
+        None => other,
     }
 }
 
@@ -146,7 +114,7 @@ impl Line {
     }
 
     // What is due at the time n where the line is Live.
-    fn due_live(self, n: u64) -> Due
+    fn due_live(self, n: u64) -> Option<Due>
         ensures { result ≡ due_live self n }
     {
         let wait = self.wait();
@@ -156,12 +124,11 @@ impl Line {
         due_by(down, test & !self.tested, beat)
     }
 
-    fn due_at(self, n: u64) -> Due
+    fn due_at(self, n: u64) -> Option<Due>
         ensures { result ≡ due_at self n }
     {
-        let session = self.session;
-        if !is_live(session.state()) {
-            return Due::Nothing;
+        if !is_live(self.session.state()) {
+            return None;
         }
         self.due_live(n)
     }
@@ -170,80 +137,85 @@ impl Line {
     fn timed(self, t: u64) -> Line
         ensures { result ≡ timed self t }
     {
-        let session = self.session;
         Line {
-            session,
-            interval: self.interval,
             now: later(self.now, t),
-            sent: self.sent,
-            heard: self.heard,
-            tested: self.tested,
+            ..self
         }
     }
 
     // This silence has had its Test Request, where this was one.
-    fn with_test(self, test: bool) -> Line
-        ensures { result ≡ tested_line test self }
+    fn with_test(self, own: Own) -> Line
+        ensures { result ≡ tested_line own self }
     {
-        let session = self.session;
-        Line {
-            session,
-            interval: self.interval,
-            now: self.now,
-            sent: self.sent,
-            heard: self.heard,
-            tested: test | self.tested,
+        match own {
+            Own::TestRequest => Line {
+                tested: true,
+                ..self
+            },
+            Own::Heartbeat => self,
         }
     }
 
     // A Test Request or a Heartbeat with the number that the session gives; 22 where it gives none.
-    fn numbered(self, test: bool, t: u64) -> Ticked
-        ensures { result ≡ numbered test self t (own_number self.session) }
+    fn numbered(self, own: Own, t: u64) -> Ticked
+        ensures { result ≡ numbered own self t (own_number self.session) }
     {
-        let session = self.session;
-        let owned = session.own_number();
+        let owned = self.session.own_number();
         let after = owned.session;
         let code = owned.code;
         if code_number(code) != 0 {
-            return says(self.moved(t, after, false, false), code, Act::Nothing);
+            return Ticked {
+                line: self.moved(t, after, false, false),
+                code,
+                act: None,
+            };
         }
         let line = self.moved(t, after, false, true);
-        says(line.with_test(test), None, own_act(test, owned.number))
+        Ticked {
+            line: line.with_test(own),
+            code: None,
+            act: Some(own_act(own, owned.number)),
+        }
     }
 
     // Tick: at most one of the three, by what is due at the time t, or at the latest time given where that is later.
     pub fn tick(self, t: u64) -> Ticked
         ensures { result ≡ tick self t }
     {
-        let due = self.due_at(later(self.now, t));
-        match due {
-            Due::Nothing => says(self.timed(t), None, Act::Nothing),
-            Due::Down => says(self.drop(t), None, Act::Down),
-            Due::TestRequest => self.numbered(true, t),
-            Due::Heartbeat => self.numbered(false, t),
+        match self.due_at(later(self.now, t)) {
+            None => Ticked {
+                line: self.timed(t),
+                code: None,
+                act: None,
+            },
+            Some(due) => match due {
+                Due::Down => Ticked {
+                    line: self.drop(t),
+                    code: None,
+                    act: Some(Act::Down),
+                },
+                Due::Message(own) => self.numbered(own, t),
+            },
         }
     }
 
     // When this silence is due: its Test Request, or Down where it has had one.
-    fn silence_due(self) -> NextTick
+    fn silence_due(self) -> Option<u64>
         ensures { result ≡ at_time (silence_due self) }
     {
-        let wait = self.wait();
-        if self.tested {
-            return at_time(self.heard, DOWN * wait);
-        }
-        at_time(self.heard, TEST_REQUEST * wait)
+        let intervals = if self.tested { DOWN } else { TEST_REQUEST };
+        self.heard.checked_add(intervals * self.wait())
     }
 
-    // The earliest time, not before the latest given, at which a tick would act, or answer 22.
-    pub fn next_tick(self) -> NextTick
+    // The earliest time, not before the latest given, at which a tick would act, or answer 22; none past 64 bits.
+    pub fn next_tick(self) -> Option<u64>
         ensures { result ≡ next_tick self }
     {
-        let session = self.session;
-        if !is_live(session.state()) {
-            return NextTick::Never;
+        if !is_live(self.session.state()) {
+            return None;
         }
-        let beat = at_time(self.sent, self.wait());
-        not_before(self.now, earlier(self.silence_due(), beat))
+        let beat = self.sent.checked_add(self.wait());
+        let next = earlier(self.silence_due(), beat)?;
+        Some(later(self.now, next))
     }
 }

@@ -1,4 +1,5 @@
 -- Laws of the list of fields: what its quick shapes say, how long it is, and that it says what the questions answer.
+use Rattle.fields.specs.Walk.{all_good}
 use Rattle.std.specs.Prelude.{Result, Ok, Err}
 use mathlib.Core.Path.{◌≡◌, refl, sym, ap, ◌∙◌}
 use mathlib.Core.Bool.{Bool, true, false, cond}
@@ -31,15 +32,13 @@ use Rattle.wire.specs.Text.{characters, fixed_text}
 use Rattle.wire.proofs.DecimalLaws.{unsigned_signed}
 use Rattle.wire.proofs.NumberLaws.{number-take}
 use Rattle.wire.proofs.TextLaws.{characters-null, fixed-good}
-use Rattle.fields.specs.declared.check.Checked.TheVariants as checked
 use Rattle.fields.specs.declared.check.Shape.{Shape}
 use Rattle.fields.specs.declared.check.Shape.TheVariants.{Number, Decimal, Fixed, Other}
 use Rattle.fields.specs.declared.value.Value.{Value}
 use Rattle.fields.specs.declared.value.Value.TheVariants as value
 use Rattle.fields.specs.declared.value.NoValue.{NoValue}
 use Rattle.fields.specs.declared.value.NoValue.TheVariants as no
-use Rattle.fields.specs.declared.walk.Walked.TheVariants.{Done}
-use Rattle.fields.specs.Check.{check_row}
+use Rattle.fields.specs.Check.{check_row, good_field}
 use Rattle.fields.specs.Cut.{head_positions, positions, extent_of, Piece, cut_at, cut, head_of}
 use Rattle.fields.specs.Shapes.{shape_in, shape_of, shape_at}
 use Rattle.fields.specs.Value.{number_value, decimal_value, text_value, sort_value, field_value, row_value, value_in}
@@ -71,7 +70,7 @@ pub fits : (n : ℕ) → n ≤ head_positions → Fits w64 n
 fits n h = omega arith
 
 -- a good field has no bad value
-pub good-value : (row : Row) (s : List ℕ) (taken plain : ℕ) → check_row row s ≡ checked.Good taken plain → row_value row true s ≡ Err no.Bad → ⊥
+pub good-value : (row : Row) (s : List ℕ) (taken plain : ℕ) → check_row row s ≡ good_field taken plain → row_value row true s ≡ Err no.Bad → ⊥
 unfolding field_value
 good-value row s taken plain e b =
     let g = row-good row s taken plain e in
@@ -269,7 +268,7 @@ pub record Listing (messagetype whole : ℕ) (m body d₀ d : List ℕ) (at left
   pub ahead : Ahead m from left
   pub sum : ℕ
   pub plain : ℕ
-  pub walked : walk_from (row_of messagetype) (later m 64 from) sum rest ≡ Done 0 plain
+  pub walked : walk_from (row_of messagetype) (later m 64 from) sum rest ≡ all_good 0 plain
   pub within : length rest ≤ length body
 
 module _ (messagetype whole : ℕ) (m body d : List ℕ) (left plain : ℕ) where

@@ -1,14 +1,13 @@
 // The checks that reader and writer share, in their order: 5 to 10.
 ghost use Rattle.std.specs.Prelude.{◌≡◌, ℕ, List};
 ghost use Rattle.tables.specs.Tables.{row_of};
-ghost use Rattle.fields.specs.declared.walk.Walked.TheVariants.{BadAt};
-ghost use Rattle.message.specs.Vet.{good_comp_id, good_header, vet_walk, vet_fields, vet};
+ghost use Rattle.message.specs.Vet.{good_comp_id, good_header, refusal_of, vet_fields, vet};
 
 use crate::frame::{COMP_ID_BYTES, Header};
 use crate::refusal::Refusal;
 use fields::check::Reason;
 use fields::sets::{lowest_missing, lowest_unknown};
-use fields::walk::{Walked, walk};
+use fields::walk::{BadAt, Walked, walk};
 use tables::table::is_type;
 use wire::text::{Allowed, takes_text};
 
@@ -45,12 +44,13 @@ fn is_header(header: Header, named: bool) -> bool
     named
 }
 
-// The refusal of a field that is bad for this reason.
-fn bad_at(reason: Reason, p: usize) -> Vetted
-    ensures { result ≡ vet_walk (BadAt p reason) }
+// The refusal of the first bad field, by its reason.
+#[tactic(auto, unfolding(crate::specs::Vet::refusal_of))]
+fn bad_at(bad: BadAt) -> Refusal
+    ensures { result ≡ refusal_of bad.reason bad.position }
 {
-    match reason {
-        Reason::Field => Vetted::Refused(Refusal::BadField(p)),
+    match bad.reason {
+        Reason::Field => Refusal::BadField(bad.position),
     }
 }
 
@@ -65,14 +65,14 @@ fn vet_fields(messagetype: u8, map: &[u8], body: &[u8]) -> Vetted
         return Vetted::Refused(Refusal::MissingField(missing));
     }
     match walk(messagetype, map, body) {
-        Walked::Done { left, plain } => {
+        Ok(Walked { left, plain }) => {
             if left == 0 {
                 Vetted::Good(plain)
             } else {
                 Vetted::Refused(Refusal::LeftOver(left))
             }
         }
-        Walked::BadAt(bad, reason) => bad_at(reason, bad),
+        Err(bad) => Vetted::Refused(bad_at(bad)),
     }
 }
 

@@ -15,13 +15,13 @@ use Rattle.sheet.specs.declared.line.Kind.{Kind}
 use Rattle.sheet.specs.declared.line.Kind.TheVariants.{Logon, Business, GapFill, Reset}
 use Rattle.sheet.specs.declared.line.Line.{Line}
 use Rattle.sheet.specs.Line.{kind_number, numbers_in}
-use Rattle.plain.specs.declared.Arrived.TheVariants.{Kept, Full}
+use Rattle.std.specs.Prelude.{Some, None}
 use Rattle.plain.specs.Both.{list_from}
 use Rattle.plain.specs.Plain.{worked_out}
 use Rattle.plain.specs.Arrivals.{most_arrivals, kind_at, line_in, lines_in, is_full, list_after, arrived, arrived_number}
 
 -- 41 changes nothing
-pub full-nothing : (list : List (List ℕ)) (count : ℕ) (l : Line) → is_full list count ≡ true → (arrived list count l ≡ Full) × (list_after list count l ≡ list)
+pub full-nothing : (list : List (List ℕ)) (count : ℕ) (l : Line) → is_full list count ≡ true → (arrived list count l ≡ None) × (list_after list count l ≡ list)
 unfolding arrived list_after
 full-nothing list count l h = (rw h, rw h)
 
@@ -30,7 +30,7 @@ pub refused_full : (list : List (List ℕ)) (count : ℕ) (l : Line) → arrived
 unfolding arrived arrived_number
 refused_full list count l = go (is_full list count)
   where
-    go : (b : Bool) → arrived_number (cond b Full (Kept (count + 1) (worked_out (lines_in (take count list) ++ l ∷ [])))) ≡ cond b 41 0
+    go : (b : Bool) → arrived_number (cond b None (Some (count + 1, worked_out (lines_in (take count list) ++ l ∷ [])))) ≡ cond b 41 0
     go true = refl
     go false = refl
 

@@ -14,12 +14,11 @@ use Rattle.session.specs.declared.state.Stepped.{Stepped}
 use Rattle.session.specs.Rules.{ruled}
 use Rattle.session.specs.State.{unmoved}
 use Rattle.sheet.specs.declared.line.Line.{Line}
-use Rattle.sheet.specs.declared.line.Said.TheVariants as said
+use Rattle.std.specs.Prelude.{Some, None}
 use Rattle.sheet.specs.declared.sheet.End.TheVariants.{NoLine, NoRoom}
 use Rattle.sheet.specs.Line.{said_of}
 use Rattle.sheet.specs.Print.{printed, counted_text, printed_full}
 use Rattle.sheet.specs.Sheet.{begun, message_of, lines_of, next_count, Sheet, ended, followed, line_said, sheet_from, sheet_of}
-use Rattle.plain.specs.declared.Arrived.TheVariants.{Full}
 use Rattle.plain.specs.Arrivals.{arrived_number}
 use Rattle.plain.specs.Both.{steps_from, quick, session_of, Reads, none, next, plain_text}
 use Rattle.plain.specs.Plain.{worked_out}
@@ -66,7 +65,7 @@ module _ (before ls : List Line) (l : Line) (line : List ℕ) where
     stepped t =
         cond (leb (length (printed t)) room) (followed line (printed t) (rest (room - length (printed t)) t.session (next_count k))) (ended s k NoRoom)
 
-    one_line : said_of line ≡ said.Line l → ((j i : ℕ) → Prints (before ++ l ∷ []) ls (rest j u.session i))
+    one_line : said_of line ≡ Some l → ((j i : ℕ) → Prints (before ++ l ∷ []) ls (rest j u.session i))
         → Prints before (l ∷ ls) (line_said rest room s k line (said_of line))
     unfolding line_said
     one_line q f =
@@ -90,6 +89,6 @@ sheet-same room bytes ls r e =
     (p.session e ∙ (same ls).session, p.text e)
 
 -- the line of one that is refused says its number
-pub full-says : (k : ℕ) → printed_full k ≡ spelled "refused=" ++ (number_text (arrived_number Full) ++ (spelled " line=" ++ (number_text k ++ 10 ∷ [])))
+pub full-says : (k : ℕ) → printed_full k ≡ spelled "refused=" ++ (number_text (arrived_number None) ++ (spelled " line=" ++ (number_text k ++ 10 ∷ [])))
 unfolding printed_full counted_text arrived_number spelled number_text digits
 full-says k = refl

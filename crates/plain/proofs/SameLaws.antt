@@ -7,7 +7,6 @@ use native.Mathlib.Omega.{arith}
 use lib.Dec.{eqb, ltb, leb}
 use lib.ListN.{length}
 use borrow.Author.Tests.{ltb-true, ltb-false, eqb-true, eqb-false, eq-eqb, ne_eqb, le-ltb, le-leb, lt-leb}
-use Rattle.std.specs.Prelude.{Option, None}
 use Rattle.wire.specs.Spelled.{spelled}
 use Rattle.wire.specs.Text.{is_character, all_characters, takes}
 use Rattle.wire.proofs.TestLaws.{either}
@@ -37,7 +36,7 @@ use Rattle.sheet.specs.declared.line.Kind.TheVariants.{Logon, Business, GapFill,
 use Rattle.sheet.specs.declared.line.Line.{Line}
 use Rattle.sheet.specs.Print.{line_text, printed}
 use Rattle.sheet.specs.Sheet.{begun, content_of, message_of}
-use Rattle.plain.specs.declared.Arrived.TheVariants.{Kept}
+use Rattle.std.specs.Prelude.{Some, Option, None}
 use Rattle.plain.specs.declared.Day.{Day}
 use Rattle.plain.specs.declared.Day.TheVariants.{Down, Waiting, Live}
 use Rattle.plain.specs.declared.Told.{Told}
@@ -233,7 +232,7 @@ same ls =
 
 -- so each arrival is answered as daysheet's session answers it, where the list has room
 pub each_same : (list : List (List ℕ)) (ls : List Line) (l : Line) → length ls < most_arrivals → length ls < length list
-    → (arrived (list_from list 0 ls) (length ls) l ≡ Kept (length ls + 1) (plain.worked_out (ls ++ l ∷ [])))
+    → (arrived (list_from list 0 ls) (length ls) l ≡ Some (length ls + 1, plain.worked_out (ls ++ l ∷ [])))
     × Same (plain.worked_out (ls ++ l ∷ [])) (quick (ls ++ l ∷ []))
 unfolding arrived
 each_same list ls l h r =

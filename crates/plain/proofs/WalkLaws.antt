@@ -10,7 +10,7 @@ use lib.ListN.{length, get_or, take, drop, set}
 use lib.Seq.{drop-cons}
 use Rattle.sheet.specs.declared.line.Line.{Line}
 use Rattle.sheet.specs.Line.{numbers_in}
-use Rattle.plain.specs.declared.Arrived.TheVariants.{Kept}
+use Rattle.std.specs.Prelude.{Some}
 use Rattle.plain.specs.declared.Day.TheVariants.{Waiting}
 use Rattle.plain.specs.declared.Told.{Told}
 use Rattle.plain.specs.Arrivals.{line_in, lines_in, is_full, list_after, arrived}
@@ -57,11 +57,11 @@ walked_none list count t₀ h = record { within = omega arith; below = h; same =
 -- what was walked over the list with the arrival in it, in four numbers, is the answer
 pub walked-answer : (list : List (List ℕ)) (count : ℕ) (l : Line) (x : List ℕ) (t₀ t : Told) → is_full list count ≡ false → x ≡ numbers_in l
     → t₀ ≡ still (Waiting 1 2) → t ≡ follows t₀ (lines_in (take (count + 1) (set list count x)))
-    → (Kept (count + 1) t ≡ arrived list count l) × (set list count x ≡ list_after list count l)
+    → (Some (count + 1, t) ≡ arrived list count l) × (set list count x ≡ list_after list count l)
 unfolding arrived list_after worked_out
 walked-answer list count l x t₀ t h q b e =
     let after : set list count x ≡ list_after list count l = rw (h, q) refl in
     let all : lines_in (take (count + 1) (set list count x)) ≡ lines_in (take count list) ++ l ∷ [] =
     ap (λ (s : List (List ℕ)). lines_in (take (count + 1) s)) after ∙ arrival-kept list count l h in
     let u : t ≡ worked_out (lines_in (take count list) ++ l ∷ []) = e ∙ rw (b, all) refl in
-    (ap (Kept (count + 1)) u ∙ rw h refl, after)
+    (ap (λ (x : Told). Some (count + 1, x)) u ∙ rw h refl, after)

@@ -1,11 +1,10 @@
 -- The arrivals of the plain recorder in a lent list (document 02, item 11): the list and the count are all that is kept.
-use Rattle.std.specs.Prelude.{ℕ, ◌+◌, Bool, true, cond, List, [], ◌∷◌, ◌++◌, eqb, leb, length, get_or, take, set}
+use Rattle.std.specs.Prelude.{ℕ, ◌+◌, Bool, true, cond, List, [], ◌∷◌, ◌++◌, eqb, leb, length, get_or, take, set, Option, Some, None}
 use Rattle.sheet.specs.declared.line.Kind.{Kind}
 use Rattle.sheet.specs.declared.line.Kind.TheVariants.{Logon, Business, GapFill, Reset}
 use Rattle.sheet.specs.declared.line.Line.{Line}
 use Rattle.sheet.specs.Line.{kind_number, numbers_in}
-use Rattle.plain.specs.declared.Arrived.{Arrived}
-use Rattle.plain.specs.declared.Arrived.TheVariants.{Kept, Full}
+use Rattle.plain.specs.declared.Told.{Told}
 use Rattle.plain.specs.Plain.{worked_out}
 
 -- a list holds at most so many
@@ -37,10 +36,10 @@ unfoldable pub list_after : List (List ℕ) → ℕ → Line → List (List ℕ)
 list_after list count l = cond (is_full list count) list (set list count (numbers_in l))
 
 -- how many have arrived then, and what the last one gives
-unfoldable pub arrived : List (List ℕ) → ℕ → Line → Arrived
-arrived list count l = cond (is_full list count) Full (Kept (count + 1) (worked_out (lines_in (take count list) ++ l ∷ [])))
+unfoldable pub arrived : List (List ℕ) → ℕ → Line → Option (ℕ × Told)
+arrived list count l = cond (is_full list count) None (Some (count + 1, worked_out (lines_in (take count list) ++ l ∷ [])))
 
 -- the number of a refusal, 0 where there is none
-unfoldable pub arrived_number : Arrived → ℕ
-arrived_number (Kept count t) = 0
-arrived_number Full = 41
+unfoldable pub arrived_number : Option (ℕ × Told) → ℕ
+arrived_number (Some kept) = 0
+arrived_number None = 41

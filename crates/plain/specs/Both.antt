@@ -1,5 +1,5 @@
 -- The two recorders over the same lines (document 02, item 11): the plain one of this crate, and the quick one, which is daysheet's session.
-use Rattle.std.specs.Prelude.{ℕ, ◌+◌, List, [], ◌∷◌, ◌++◌, ◌≡◌, None}
+use Rattle.std.specs.Prelude.{ℕ, ◌+◌, List, [], ◌∷◌, ◌++◌, ◌≡◌, Some, None}
 use Rattle.session.specs.declared.state.Send.TheVariants.{Nothing}
 use Rattle.session.specs.declared.state.Session.{Session}
 use Rattle.session.specs.declared.state.State.TheVariants as state
@@ -7,7 +7,6 @@ use Rattle.session.specs.declared.state.Stepped.{Stepped}
 use Rattle.session.specs.Rules.{ruled}
 use Rattle.session.specs.State.{unmoved}
 use Rattle.sheet.specs.declared.line.Line.{Line}
-use Rattle.sheet.specs.declared.line.Said.TheVariants as said
 use Rattle.sheet.specs.Line.{said_of}
 use Rattle.sheet.specs.Print.{line_text}
 use Rattle.sheet.specs.Sheet.{begun, message_of}
@@ -53,7 +52,7 @@ list_from list count (l ∷ ls) = list_from (list_after list count l) (count + 1
 -- every one of these lines of text is good, and they say these
 pub data Reads : List (List ℕ) → List Line → Type 0 where
   none : Reads [] []
-  next : {b : List ℕ} {bs : List (List ℕ)} {l : Line} {ls : List Line} → said_of b ≡ said.Line l → Reads bs ls → Reads (b ∷ bs) (l ∷ ls)
+  next : {b : List ℕ} {bs : List (List ℕ)} {l : Line} {ls : List Line} → said_of b ≡ Some l → Reads bs ls → Reads (b ∷ bs) (l ∷ ls)
 
 -- what the plain recorder prints of lines that follow others, each worked out afresh
 unfoldable pub plain_text : List Line → List Line → List ℕ

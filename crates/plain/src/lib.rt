@@ -3,10 +3,10 @@
 
 ghost use Rattle.std.specs.Prelude.{◌≡◌};
 ghost use Rattle.plain.specs.Plain.{tells, stop, makes, ask, higher, live, ruled};
-ghost use Rattle.plain.specs.Arrivals.{kind_at, line_in, arrived, list_after};
+ghost use Rattle.plain.specs.Arrivals.{line_in, arrived, list_after};
 
 use session::state::{LAST, MOST_REPEATS, Row, Send};
-use sheet::line::{BUSINESS, LOGON, Line, RESET};
+use sheet::line::{BUSINESS, Kind, LOGON, Line, RESET};
 
 pub const MOST_ARRIVALS: usize = 4096; // A list holds no more, each in four numbers.
 
@@ -24,13 +24,6 @@ pub struct Told {
     pub day: Day,
     pub send: Send,
     pub row: Row,
-}
-
-// An arrival is kept, as the last of so many, and answered; or the list is full, 41.
-#[derive(Clone, Copy)]
-pub enum Arrived {
-    Kept(usize, Told),
-    Full,
 }
 
 fn tells(day: Day, send: Send, row: Row) -> Told
@@ -83,68 +76,70 @@ fn higher(e: u32, o: u32, m: u32, repeats: u32, n: u32, dup: u32) -> Told
     }
 }
 
-fn live(e: u32, o: u32, m: u32, repeats: u32, kind: u32, n: u32, dup: u32, new: u32) -> Told
-    ensures { result ≡ live e o m repeats (kind_at kind) n dup new }
+// E, O, M and the count side by side: a struct of them would be Day's Live again, and this file is to stay within 150 lines.
+fn live(e: u32, o: u32, m: u32, repeats: u32, line: Line) -> Told
+    ensures { result ≡ live e o m repeats line.kind line.n line.dup line.new }
 {
-    if kind == LOGON || kind == RESET && new < e {
-        stop(e, o) // Rule 3, Stop(32) for a logon, and rule 4, Stop(33) where New is below E.
-    } else if kind == RESET && e < new {
-        makes(o, m, new, Row::Reset(e, new - 1)) // Rule 4, where E rises.
-    } else if kind == RESET {
-        tells(Day::Live(e, o, m, repeats), Send::Nothing, Row::Nothing) // Rule 4, where E stays.
-    } else if n < e && dup == 1 {
-        tells(Day::Live(e, o, m, repeats), Send::Nothing, Row::Nothing) // Rule 6, ignored.
-    } else if n < e {
-        stop(e, o) // Rule 6, Stop(30).
-    } else if e < n {
-        higher(e, o, m, repeats, n, dup) // Rule 7.
-    } else if n == LAST {
-        stop(e, o) // Rule 8, Stop(36).
-    } else if kind == BUSINESS {
-        makes(o, m, n + 1, Row::Business(n)) // Rule 9, business.
-    } else if n < new {
-        let last = new - 1;
-        makes(o, m, last + 1, Row::Filled(n, last)) // Rule 9, a gap fill: E is one past the last that it fills.
-    } else {
-        stop(e, o) // Rule 9, Stop(33).
+    let still = tells(Day::Live(e, o, m, repeats), Send::Nothing, Row::Nothing);
+    let Line { kind, n, dup, new } = line;
+    match kind {
+        Kind::Logon => stop(e, o), // Rule 3, Stop(32).
+        Kind::Reset if new < e => stop(e, o), // Rule 4, Stop(33).
+        Kind::Reset if e < new => makes(o, m, new, Row::Reset(e, new - 1)), // Rule 4, where E rises.
+        Kind::Reset => still, // Rule 4, where E stays.
+        _ if n < e && dup == 1 => still, // Rule 6, ignored.
+        _ if n < e => stop(e, o), // Rule 6, Stop(30).
+        _ if e < n => higher(e, o, m, repeats, n, dup), // Rule 7.
+        _ if n == LAST => stop(e, o), // Rule 8, Stop(36).
+        Kind::Business => makes(o, m, n + 1, Row::Business(n)), // Rule 9, business.
+        Kind::GapFill if n < new => makes(o, m, new, Row::Filled(n, new - 1)), // Rule 9, a gap fill.
+        Kind::GapFill => stop(e, o), // Rule 9, Stop(33).
     }
 }
 
 // Down, rule 2 and the others. While it waits O is 2, as a logon's Next Expected is: no Stop(35), no gap fill to send.
-fn ruled(day: Day, kind: u32, n: u32, dup: u32, new: u32) -> Told
-    ensures { result ≡ ruled day (line_in kind n dup new) }
+fn ruled(day: Day, line: Line) -> Told
+    ensures { result ≡ ruled day line }
 {
     match day {
         Day::Down(_, _) => tells(day, Send::Nothing, Row::Nothing), // It answers 20.
-        Day::Waiting(e, o) => {
-            if kind != LOGON || n < e {
-                stop(e, o) // Rule 2, Stop(32) for another kind and Stop(30).
-            } else if e < n {
-                tells(Day::Live(e, o, 0, 0), Send::Nothing, Row::Nothing) // Rule 2, n > E.
-            } else if n == LAST {
-                stop(e, o) // Rule 2, Stop(36).
-            } else {
-                makes(o, 0, n + 1, Row::Session(n)) // Rule 2, n = E.
-            }
-        }
-        Day::Live(e, o, m, repeats) => live(e, o, m, repeats, kind, n, dup, new),
+        Day::Waiting(e, o) => match line.kind {
+            Kind::Logon if line.n < e => stop(e, o), // Rule 2, Stop(30).
+            Kind::Logon if e < line.n => tells(Day::Live(e, o, 0, 0), Send::Nothing, Row::Nothing), // n > E.
+            Kind::Logon if line.n == LAST => stop(e, o), // Rule 2, Stop(36).
+            Kind::Logon => makes(o, 0, line.n + 1, Row::Session(line.n)), // Rule 2, n = E.
+            _ => stop(e, o), // Rule 2, Stop(32) for another kind.
+        },
+        Day::Live(e, o, m, repeats) => live(e, o, m, repeats, line),
     }
 }
 
-// Puts an arrival behind the first `count` of the list, and works out the answer to it.
-pub fn arrive(list: &mut [[u32; 4]], count: usize, line: Line) -> Arrived
+// An arrival as the list holds it, in four numbers: any kind that is none of the other three's is a gap fill's.
+fn line_in(kind: u32, n: u32, dup: u32, new: u32) -> Line
+    ensures { result ≡ line_in kind n dup new }
+{
+    let kind = match kind {
+        LOGON => Kind::Logon,
+        RESET => Kind::Reset,
+        BUSINESS => Kind::Business,
+        _ => Kind::GapFill,
+    };
+    Line { kind, n, dup, new }
+}
+
+// Puts an arrival behind the first `count` of the list, and works out the answer to it, with how many have arrived; or the list is full, 41.
+pub fn arrive(list: &mut [[u32; 4]], count: usize, line: Line) -> Option<(usize, Told)>
     ensures value { result ≡ arrived list.old count line }
     ensures list_after { list.new ≡ list_after list.old count line }
 {
     if MOST_ARRIVALS <= count || list.len() <= count {
-        return Arrived::Full;
+        return None;
     }
     list[count] = line.numbers();
     let mut told = tells(Day::Waiting(1, 2), Send::Nothing, Row::Nothing); // A fresh day that has connected.
     for i in 0..=count {
-        let day = told.day;
-        let a = list[i]; // Its kind, n, dup and new.
-        told = ruled(day, a[0], a[1], a[2], a[3]);
+        let [kind, n, dup, new] = list[i];
+        told = ruled(told.day, line_in(kind, n, dup, new));
     }
-    Arrived::Kept(count + 1, told)
+    Some((count + 1, told))
 }

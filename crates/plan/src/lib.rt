@@ -102,7 +102,8 @@ fn part_at(list: &[u8], i: usize) -> Reach
     }
 }
 
-// How many parts the numbers from start + 1 on have.
+// How many parts the numbers from start + 1 on have. Loops and no chains, here and in `write_parts`: each turn's step is the
+// part's own length. And two loops, not one that is given a closure: its contract would be as long as both.
 fn count_parts(list: &[u8], start: usize) -> usize
     requires { (start ≤ length list.now) × (length list.now ≤ longest_list) }
     ensures { (result ≡ length (parts_at list.now start)) × (result ≤ longest_list) }
@@ -152,7 +153,7 @@ pub fn plan(list: &[u8], s: u32, e: u32, d: &mut [u32]) -> Result<usize, NotPlan
     Ok(needed)
 }
 
-// Whether a gap fill a to b and one from next to c touch.
+// Whether a gap fill a to b and one from next to c touch. (They are numbers here: C lends a plan so.)
 fn touch(a: u32, b: u32, next: u32, c: u32) -> bool
     ensures { result ≡ touch (gap_fill a b) (gap_fill next c) }
 {

@@ -8,10 +8,11 @@ use lib.Dec.{eqb, leb}
 use lib.ListN.{length, get_or}
 use borrow.Author.Tests.{leb-true, leb-false, eqb-true, eqb-false, ne_eqb}
 use Rattle.tables.specs.Tables.{is_type, row_of}
+use Rattle.fields.specs.declared.check.Reason.{Reason}
 use Rattle.fields.specs.declared.check.Reason.TheVariants.{Field}
-use Rattle.std.specs.Prelude.{Option, Some, None}
+use Rattle.std.specs.Prelude.{Option, Some, None, Result, Ok, Err}
 use Rattle.fields.specs.declared.walk.Walked.{Walked}
-use Rattle.fields.specs.declared.walk.Walked.TheVariants.{Done, BadAt}
+use Rattle.fields.specs.declared.walk.BadAt.{BadAt}
 use Rattle.fields.specs.Sets.{lowest_unknown, lowest_missing}
 use Rattle.fields.specs.Walk.{walk_of}
 use Rattle.wire.proofs.TestLaws.{either}
@@ -20,13 +21,13 @@ use Rattle.message.specs.declared.frame.Framed.TheVariants as frame
 use Rattle.message.specs.declared.frame.Header.{Header}
 use Rattle.message.specs.declared.read.Reading.TheVariants.{Good, Refused}
 use Rattle.message.specs.declared.refusal.Refusal.{Refusal}
-use Rattle.message.specs.declared.refusal.Refusal.TheVariants.{UnknownPosition, MissingField, BadField}
+use Rattle.message.specs.declared.refusal.Refusal.TheVariants.{UnknownPosition, MissingField}
 use Rattle.message.specs.declared.vet.Vetted.{Vetted}
 use Rattle.message.specs.declared.vet.Vetted.TheVariants as vetted
 use Rattle.message.specs.Frame.{header_in, comp_id_in, map_in, body_in, length_in, framed, length_by, front_length}
 use Rattle.message.specs.Read.{read_vetted, read_whole, read_framed, read_of}
 use Rattle.message.specs.Refusal.{number_of}
-use Rattle.message.specs.Vet.{good_header, vet_walk, vet_place, vet_sets, vet_fields, vet}
+use Rattle.message.specs.Vet.{good_header, refusal_of, vet_walk, vet_place, vet_sets, vet_fields, vet}
 use Rattle.message.proofs.FrameLaws.{framed-by, front-short, front-other, front_by}
 
 module _ (s : List ℕ) (h : Header) (n : ℕ) where
@@ -50,10 +51,14 @@ data Late : Vetted → Type 0 where
   good : {n : ℕ} → Late (vetted.Good n)
   refused : {r : Refusal} → 5 ≤ number_of r → Late (vetted.Refused r)
 
-late-walk : (w : Walked) → Late (vet_walk w)
+late-field : (why : Reason) (p : ℕ) → 5 ≤ number_of (refusal_of why p)
+unfolding refusal_of number_of
+late-field Field p = omega arith
+
+late-walk : (w : Result Walked BadAt) → Late (vet_walk w)
 unfolding vet_walk number_of
-late-walk (Done left plain) = either Late (eqb left 0) (λ e. good) (λ e. refused (omega arith))
-late-walk (BadAt p Field) = refused {r = BadField p} (omega arith)
+late-walk (Ok w) = either Late (eqb w.left 0) (λ e. good) (λ e. refused (omega arith))
+late-walk (Err bad) = refused (late-field bad.reason bad.position)
 
 late-place : (r : ℕ → Refusal) (p : Option ℕ) {v : Vetted} → ((k : ℕ) → 5 ≤ number_of (r k)) → Late v → Late (vet_place r p v)
 unfolding vet_place

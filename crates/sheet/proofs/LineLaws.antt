@@ -2,46 +2,40 @@
 -- and that nothing of a line tells such numbers apart.
 use mathlib.Core.Path.{◌≡◌, refl, sym, ap, ap₂, ◌∙◌, fun_ext}
 use Prim.Native.Nat.{ℕ, zero, suc, ◌+◌, ◌-◌, ◌*◌, ◌<◌, ◌≤◌}
-use native.Mathlib.Nat.{suc-le-suc_iff}
 use native.Mathlib.Numerals.{add-one}
 use native.Mathlib.Omega.{arith}
-use mathlib.Core.Bool.{Bool, true, false, cond}
+use mathlib.Core.Bool.{Bool, true, false, cond, ◌&&◌}
 use mathlib.Core.List.{List, [], ◌∷◌}
 use lib.Dec.{leb, eqb}
-use lib.ListN.{length, get_or, take, drop, length-drop, drop_of_length-le}
+use lib.ListN.{length, get_or, take, drop, length-drop}
 use lib.Seq.{drop-cons}
+use lib.Pointwise.{pointwise}
+use Rattle.std.proofs.lemmas.Grind.{common_steps}
 use borrow.Author.Tests.{eq-eqb, ne_eqb, le-leb, lt-leb, leb-true, leb-false}
-use Rattle.wire.proofs.TestLaws.{both, rest_of}
+use Rattle.wire.proofs.TestLaws.{both}
 use Rattle.sheet.specs.declared.line.Kind.{Kind}
 use Rattle.sheet.specs.declared.line.Kind.TheVariants.{Logon, Business, GapFill, Reset}
-use Rattle.sheet.specs.declared.line.Said.{Said}
-use Rattle.sheet.specs.declared.line.Said.TheVariants as said
+use Rattle.std.specs.Prelude.{Option, Some, None}
+use Rattle.sheet.specs.declared.line.Line.{Line}
 use Rattle.sheet.specs.Line.{begins, after, is_digit, digits_from, number, most_new, line_of}
-use Rattle.sheet.specs.Capped.{capped, with_digit, Blind, NumberRead}
+use Rattle.sheet.specs.Capped.{capped, with_digit, Blind, NumberRead, Has, HasNone}
 
--- a text compared byte by byte
-module _ (w s : List ℕ) (i : ℕ) (h : i < length w) where
-  pub begins-short : length s ≤ i → begins (drop i w) (drop i s) ≡ false
-  unfolding begins
-  begins-short l = rw (drop-cons w i 0, drop_of_length-le s l)
+-- a text compared byte by byte, as the library compares it
+eqb-swap : (b c : ℕ) → eqb b c ≡ eqb c b
+eqb-swap b c = grind (arith, common_steps)
 
-  pub begins-other : i < length s → (get_or w i 0 ≡ get_or s i 0 → ⊥) → begins (drop i w) (drop i s) ≡ false
-  unfolding begins
-  begins-other l n = rw (drop-cons w i 0, drop-cons s i 0, ne_eqb (get_or w i 0) (get_or s i 0) n)
+and-cond : (t u : Bool) → (t && u) ≡ cond t u false
+and-cond true u = refl
+and-cond false u = refl
 
-  pub begins-more : i < length s → get_or w i 0 ≡ get_or s i 0 → begins (drop i w) (drop i s) ≡ begins (drop (i + 1) w) (drop (i + 1) s)
-  unfolding begins
-  begins-more l e = rw (add-one, drop-cons w i 0, drop-cons s i 0, eq-eqb (get_or w i 0) (get_or s i 0) e)
-
-pub begins-done : (w s : List ℕ) (i : ℕ) → length w ≤ i → begins (drop i w) (drop i s) ≡ true
+begins-prefix : (w s : List ℕ) → pointwise eqb (take (length w) s) w ≡ begins w s
 unfolding begins
-begins-done w s i l = rw (drop_of_length-le w l)
+begins-prefix [] s = refl
+begins-prefix (c ∷ w) [] = refl
+begins-prefix (c ∷ w) (b ∷ s) = and-cond (eqb b c) (pointwise eqb (take (length w) s) w) ∙ ap₂ (λ (t u : Bool). cond t u false) (eqb-swap b c) (begins-prefix w s)
 
-pub begins-length : (w s : List ℕ) → begins w s ≡ true → length w ≤ length s
-unfolding begins
-begins-length [] s e = omega arith
-begins-length (x ∷ w) [] e = let z : ◌≡◌ {A = ℕ} 0 1 = cc in absurd (omega arith)
-begins-length (x ∷ w) (y ∷ s) e = suc-le-suc_iff.1 (begins-length w s (both (eqb x y) (begins w s) e).1)
+pub begins-by : (w s : List ℕ) (t : Bool) → pointwise eqb (take (length w) s) w ≡ t → begins w s ≡ t
+begins-by w s t e = sym (begins-prefix w s) ∙ e
 
 pub digit-range : (b : ℕ) → is_digit b ≡ true → (48 ≤ b) × (b ≤ 57)
 unfolding is_digit
@@ -66,7 +60,7 @@ module _ (n : ℕ) where
     go false e = omega arith
 
 -- what follows a number sees only its first 32 bits
-module _ (rest : ℕ → List ℕ → Said) (blind : Blind rest) where
+module _ (rest : ℕ → List ℕ → Option Line) (blind : Blind rest) where
   digits-blind : (m n : ℕ) (s : List ℕ) → 4294967295 < m → 4294967295 < n → digits_from m rest s ≡ digits_from n rest s
   unfolding digits_from
   digits-blind m n [] a b = blind m n [] a b
@@ -86,17 +80,17 @@ pub record Reading (s : List ℕ) (value i : ℕ) : Type 0 where
   pub within : i ≤ length s
   pub small : value ≤ 4294967296
   pub led : 0 < i → is_digit (get_or s 0 0) ≡ true
-  pub same : (rest : ℕ → List ℕ → Said) → Blind rest → digits_from value rest (drop i s) ≡ digits_from 0 rest s
+  pub same : (rest : ℕ → List ℕ → Option Line) → Blind rest → digits_from value rest (drop i s) ≡ digits_from 0 rest s
 
 pub reading-none : (s : List ℕ) → Reading s 0 0
 reading-none s = record { within = omega arith; small = omega arith; led = λ h. absurd (omega arith); same = λ rest b. refl }
 
-number-some : (rest : ℕ → List ℕ → Said) (s : List ℕ) → 0 < length s → is_digit (get_or s 0 0) ≡ true → number rest s ≡ digits_from 0 rest s
+number-some : (rest : ℕ → List ℕ → Option Line) (s : List ℕ) → 0 < length s → is_digit (get_or s 0 0) ≡ true → number rest s ≡ digits_from 0 rest s
 unfolding number
 number-some rest [] l d = absurd (omega arith)
 number-some rest (b ∷ s) l d = rw d
 
-number-none : (rest : ℕ → List ℕ → Said) (s : List ℕ) → (0 < length s → is_digit (get_or s 0 0) ≡ false) → number rest s ≡ said.Bad
+number-none : (rest : ℕ → List ℕ → Option Line) (s : List ℕ) → (0 < length s → is_digit (get_or s 0 0) ≡ false) → number rest s ≡ None
 unfolding number
 number-none rest [] d = refl
 number-none rest (b ∷ s) d = let e : is_digit b ≡ false = d (omega arith) in rw e
@@ -114,12 +108,12 @@ module _ (s : List ℕ) (value i : ℕ) (r : Reading s value i) where
     go zero e = ap (λ (k : ℕ). is_digit (get_or s k 0)) e ∙ d
     go (suc k) e = r.led (omega arith)
 
-    step : (rest : ℕ → List ℕ → Said) → digits_from value rest (drop i s) ≡ digits_from (value * 10 + (get_or s i 0 - 48)) rest (drop (i + 1) s)
+    step : (rest : ℕ → List ℕ → Option Line) → digits_from value rest (drop i s) ≡ digits_from (value * 10 + (get_or s i 0 - 48)) rest (drop (i + 1) s)
     step rest = rw (add-one i, drop-cons s i 0, d)
 
   -- the digits end: by another byte, or with the bytes
   module _ (stops : i < length s → is_digit (get_or s i 0) ≡ false) where
-    digits-stop : (rest : ℕ → List ℕ → Said) → digits_from value rest (drop i s) ≡ rest value (drop i s)
+    digits-stop : (rest : ℕ → List ℕ → Option Line) → digits_from value rest (drop i s) ≡ rest value (drop i s)
     unfolding digits_from
     digits-stop rest = go (drop i s) refl where
       go : (t : List ℕ) → drop i s ≡ t → digits_from value rest t ≡ rest value t
@@ -132,7 +126,7 @@ module _ (s : List ℕ) (value i : ℕ) (r : Reading s value i) where
 
     pub reading-ends : NumberRead s value i
     reading-ends = record { within = r.within; says = λ rest b. go rest b i refl } where
-      go : (rest : ℕ → List ℕ → Said) → Blind rest → (k : ℕ) → k ≡ i → number rest s ≡ cond (eqb i 0) said.Bad (rest value (drop i s))
+      go : (rest : ℕ → List ℕ → Option Line) → Blind rest → (k : ℕ) → k ≡ i → number rest s ≡ cond (eqb i 0) None (rest value (drop i s))
       go rest b zero e =
           number-none rest s (λ l. ap (λ (j : ℕ). is_digit (get_or s j 0)) e ∙ stops (omega arith)) ∙ rw (eq-eqb i 0 (sym e))
       go rest b (suc k) e =
@@ -140,23 +134,23 @@ module _ (s : List ℕ) (value i : ℕ) (r : Reading s value i) where
           let n : i ≡ 0 → ⊥ = λ z. omega arith in
           number-some rest s (omega (arith, r.within)) (r.led p) ∙ sym (r.same rest b) ∙ digits-stop rest ∙ rw (ne_eqb i 0 n)
 
--- a good number, and what follows it
-module _ (s : List ℕ) (value digits : ℕ) (r : NumberRead s value digits) (rest : ℕ → List ℕ → Said) (blind : Blind rest) where
-  pub number-bad : digits ≡ 0 → number rest s ≡ said.Bad
-  number-bad z = r.says rest blind ∙ rw (eq-eqb digits 0 z)
+-- a number or none, by how many digits were read
+module _ (s : List ℕ) (value digits : ℕ) (r : NumberRead s value digits) where
+  pub number-bad : digits ≡ 0 → HasNone s
+  number-bad z rest blind = r.says rest blind ∙ rw (eq-eqb digits 0 z)
 
-  pub number-good : (digits ≡ 0 → ⊥) → number rest s ≡ rest value (drop digits s)
-  number-good n = r.says rest blind ∙ rw (ne_eqb digits 0 n)
+  pub number-good : (digits ≡ 0 → ⊥) → Has s value (drop digits s)
+  number-good n rest blind = r.says rest blind ∙ rw (ne_eqb digits 0 n)
 
 -- what follows a text
-module _ (w : List ℕ) (rest : List ℕ → Said) (s : List ℕ) where
-  pub after-bad : begins w s ≡ false → after w rest s ≡ said.Bad
+module _ (w : List ℕ) (rest : List ℕ → Option Line) (s : List ℕ) where
+  pub after-bad : pointwise eqb (take (length w) s) w ≡ false → after w rest s ≡ None
   unfolding after
-  after-bad e = rw e
+  after-bad e = rw (begins-by w s false e)
 
-  pub after-good : begins w s ≡ true → after w rest s ≡ rest (drop (length w) s)
+  pub after-good : pointwise eqb (take (length w) s) w ≡ true → (t : List ℕ) → t ≡ drop (length w) s → after w rest s ≡ rest t
   unfolding after
-  after-good e = rw e
+  after-good e t q = rw (begins-by w s true e) (ap rest (sym q))
 
 pub most-new-most : (kind : Kind) → most_new kind ≤ 4294967295
 unfolding most_new
@@ -165,39 +159,39 @@ most-new-most Business = omega arith
 most-new-most GapFill = omega arith
 most-new-most Reset = omega arith
 
-same-both : (a : Bool) (x : Said) → cond a x x ≡ x
+same-both : (a : Bool) (x : Option Line) → cond a x x ≡ x
 same-both true x = refl
 same-both false x = refl
 
 -- what makes a line bad, and what makes it good
 module _ (kind : Kind) (n dup new : ℕ) where
-  pub line-longer : (s : List ℕ) → (length s ≡ 0 → ⊥) → line_of kind n dup new s ≡ said.Bad
+  pub line-longer : (s : List ℕ) → (length s ≡ 0 → ⊥) → line_of kind n dup new s ≡ None
   unfolding line_of
   line-longer [] h = absurd (h refl)
   line-longer (b ∷ s) h = refl
 
-  pub n-zero : (s : List ℕ) → n < 1 → line_of kind n dup new s ≡ said.Bad
+  pub n-zero : (s : List ℕ) → n < 1 → line_of kind n dup new s ≡ None
   unfolding line_of
   n-zero [] h = simp (lt-leb 1 n h)
   n-zero (b ∷ s) h = refl
 
-  pub n-past : (s : List ℕ) → 4294967295 < n → line_of kind n dup new s ≡ said.Bad
+  pub n-past : (s : List ℕ) → 4294967295 < n → line_of kind n dup new s ≡ None
   unfolding line_of
   n-past [] h = simp (lt-leb n 4294967295 h, same-both)
   n-past (b ∷ s) h = refl
 
-  pub dup-past : (s : List ℕ) → 1 < dup → line_of kind n dup new s ≡ said.Bad
+  pub dup-past : (s : List ℕ) → 1 < dup → line_of kind n dup new s ≡ None
   unfolding line_of
   dup-past [] h = simp (lt-leb dup 1 h, same-both)
   dup-past (b ∷ s) h = refl
 
-  pub new-past : (s : List ℕ) → most_new kind < new → line_of kind n dup new s ≡ said.Bad
+  pub new-past : (s : List ℕ) → most_new kind < new → line_of kind n dup new s ≡ None
   unfolding line_of
   new-past [] h = simp (lt-leb new (most_new kind) h, same-both)
   new-past (b ∷ s) h = refl
 
   pub line-good : (s : List ℕ) → length s ≡ 0 → 1 ≤ n → n ≤ 4294967295 → dup ≤ 1 → new ≤ most_new kind
-      → line_of kind n dup new s ≡ said.Line (record { kind = kind; n = n; dup = dup; new = new })
+      → line_of kind n dup new s ≡ Some (record { kind = kind; n = n; dup = dup; new = new })
   unfolding line_of
   line-good [] e a b c d = rw (le-leb 1 n a, le-leb n 4294967295 b, le-leb dup 1 c, le-leb new (most_new kind) d)
   line-good (x ∷ s) e a b c d = absurd (omega arith)
@@ -213,29 +207,20 @@ pub dup-blind : (w : List ℕ) (kind : Kind) (n : ℕ) → Blind (λ dup. after 
 dup-blind w kind n x y s a b =
     let l : 1 < x = omega arith in
     let m : 1 < y = omega arith in
-    ap (λ (f : ℕ → List ℕ → Said). after w (number f) s) (fun_ext (λ new. fun_ext (λ t. dup-past kind n x new t l ∙ sym (dup-past kind n y new t m))))
+    ap (λ (f : ℕ → List ℕ → Option Line). after w (number f) s) (fun_ext (λ new. fun_ext (λ t. dup-past kind n x new t l ∙ sym (dup-past kind n y new t m))))
 
 pub n-blind : (v w : List ℕ) (kind : Kind) → Blind (λ n. after v (number (λ dup. after w (number (line_of kind n dup)))))
 n-blind v w kind x y s a b =
-    ap (λ (f : ℕ → ℕ → List ℕ → Said). after v (number (λ dup. after w (number (f dup)))) s) (fun_ext (λ dup. fun_ext (λ new. fun_ext (λ t. n-past kind x dup new t a ∙ sym (n-past kind y dup new t b)))))
+    ap (λ (f : ℕ → ℕ → List ℕ → Option Line). after v (number (λ dup. after w (number (f dup)))) s) (fun_ext (λ dup. fun_ext (λ new. fun_ext (λ t. n-past kind x dup new t a ∙ sym (n-past kind y dup new t b)))))
 
--- a number, the text w, and what follows: k digits are read, and the lent part after them is compared with w
-module _ (w : List ℕ) (f : ℕ → List ℕ → Said) (blind : Blind (λ v. after w (f v))) (s : List ℕ) (value k : ℕ) (r : NumberRead s value k) (n : k ≡ 0 → ⊥) where
-  follows : number (λ v. after w (f v)) s ≡ after w (f value) (take (length s - k) (drop k s))
-  follows = number-good s value k r (λ v. after w (f v)) blind n ∙ ap (after w (f value)) (sym (rest_of s k))
+-- a number, the text w, and what follows
+module _ (w : List ℕ) (f : ℕ → List ℕ → Option Line) (blind : Blind (λ v. after w (f v))) (s : List ℕ) where
+  pub follows-none : HasNone s → number (λ v. after w (f v)) s ≡ None
+  follows-none h = h (λ v. after w (f v)) blind
 
-  pub follows-bad : begins w (take (length s - k) (drop k s)) ≡ false → number (λ v. after w (f v)) s ≡ said.Bad
-  follows-bad e = follows ∙ after-bad w (f value) (take (length s - k) (drop k s)) e
+  module _ (value : ℕ) (tail : List ℕ) (h : Has s value tail) where
+    pub follows-bad : pointwise eqb (take (length w) tail) w ≡ false → number (λ v. after w (f v)) s ≡ None
+    follows-bad e = h (λ v. after w (f v)) blind ∙ after-bad w (f value) tail e
 
-  -- l is the length of w, and the rest of the rest is lent
-  pub follows-good : (l : ℕ) → length w ≡ l → begins w (take (length s - k) (drop k s)) ≡ true
-      → number (λ v. after w (f v)) s ≡ f value (take (length (take (length s - k) (drop k s)) - l) (drop l (take (length s - k) (drop k s))))
-  follows-good l q e =
-      let t = take (length s - k) (drop k s) in
-      follows ∙ after-good w (f value) t e ∙ ap (λ (j : ℕ). f value (drop j t)) q ∙ ap (f value) (sym (rest_of t l))
-
--- the same of a text alone
-pub text-good : (w : List ℕ) (rest : List ℕ → Said) (s : List ℕ) (l : ℕ) → length w ≡ l → begins w s ≡ true
-    → after w rest s ≡ rest (take (length s - l) (drop l s))
-text-good w rest s l q e =
-    after-good w rest s e ∙ ap (λ (j : ℕ). rest (drop j s)) q ∙ ap rest (sym (rest_of s l))
+    pub follows-good : pointwise eqb (take (length w) tail) w ≡ true → (t : List ℕ) → t ≡ drop (length w) tail → number (λ v. after w (f v)) s ≡ f value t
+    follows-good e t q = h (λ v. after w (f v)) blind ∙ after-good w (f value) tail e t q

@@ -16,8 +16,7 @@ use Rattle.wire.specs.Laying.{laid, laid_answer, refusal, besides}
 use Rattle.session.specs.declared.state.Session.{Session}
 use Rattle.session.specs.Rules.{ruled}
 use Rattle.sheet.specs.declared.line.Line.{Line}
-use Rattle.sheet.specs.declared.line.Said.{Said}
-use Rattle.sheet.specs.declared.line.Said.TheVariants as said
+use Rattle.std.specs.Prelude.{Option, Some, None}
 use Rattle.sheet.specs.declared.sheet.End.{End}
 use Rattle.sheet.specs.declared.sheet.End.TheVariants.{NoLine, NoRoom, BadLine}
 use Rattle.sheet.specs.declared.sheet.Taken.{Taken}
@@ -64,31 +63,31 @@ module _ (room : ℕ) (s : Session) (k : ℕ) (bytes : List ℕ) where
 
   -- n is the first line's length
   module _ (n : ℕ) (q : n ≡ line_length bytes) (h : n < length bytes) where
-    said-line : (x : Said) → said_of (take n bytes) ≡ x → sheet_of room s k bytes ≡ line_said (λ r t j. sheet_of r t j (drop (n + 1) bytes)) room s k (take n bytes) x
+    said-line : (x : Option Line) → said_of (take n bytes) ≡ x → sheet_of room s k bytes ≡ line_said (λ r t j. sheet_of r t j (drop (n + 1) bytes)) room s k (take n bytes) x
     said-line x e =
         let l : line_length bytes < length bytes = omega arith in
         sheet-line l
         ∙ ap (λ (m : ℕ). line_said (λ r t j. sheet_of r t j (drop (m + 1) bytes)) room s k (take m bytes) (said_of (take m bytes))) (sym q)
         ∙ ap (line_said (λ r t j. sheet_of r t j (drop (n + 1) bytes)) room s k (take n bytes)) e
 
-    module _ (l : Line) (e : said_of (take n bytes) ≡ said.Line l) where
+    module _ (l : Line) (e : said_of (take n bytes) ≡ Some l) where
       pub sheet-taken : length (printed (ruled s (message_of l))) ≤ room
           → sheet_of room s k bytes ≡ followed (take n bytes) (printed (ruled s (message_of l))) (sheet_of (room - length (printed (ruled s (message_of l)))) (ruled s (message_of l)).session (next_count k) (drop (n + 1) bytes))
       unfolding line_said
-      sheet-taken f = said-line (said.Line l) e ∙ rw (le-leb (length (printed (ruled s (message_of l)))) room f)
+      sheet-taken f = said-line (Some l) e ∙ rw (le-leb (length (printed (ruled s (message_of l)))) room f)
 
       pub sheet-full : room < length (printed (ruled s (message_of l))) → sheet_of room s k bytes ≡ ended s k NoRoom
       unfolding line_said
-      sheet-full f = said-line (said.Line l) e ∙ rw (lt-leb (length (printed (ruled s (message_of l)))) room f)
+      sheet-full f = said-line (Some l) e ∙ rw (lt-leb (length (printed (ruled s (message_of l)))) room f)
 
-    module _ (e : said_of (take n bytes) ≡ said.Bad) where
+    module _ (e : said_of (take n bytes) ≡ None) where
       pub sheet-bad : length (printed_bad k) ≤ room → sheet_of room s k bytes ≡ followed (take n bytes) (printed_bad k) (ended s k BadLine)
       unfolding line_said
-      sheet-bad f = said-line said.Bad e ∙ rw (le-leb (length (printed_bad k)) room f)
+      sheet-bad f = said-line None e ∙ rw (le-leb (length (printed_bad k)) room f)
 
       pub sheet-bad-full : room < length (printed_bad k) → sheet_of room s k bytes ≡ ended s k NoRoom
       unfolding line_said
-      sheet-bad-full f = said-line said.Bad e ∙ rw (lt-leb (length (printed_bad k)) room f)
+      sheet-bad-full f = said-line None e ∙ rw (lt-leb (length (printed_bad k)) room f)
 
 -- what is taken and laid before a sheet
 unfoldable pub ahead : ℕ → List ℕ → Sheet → Sheet
@@ -231,12 +230,12 @@ module _ (d₀ bytes : List ℕ) (s₀ : Session) (k₀ : ℕ) where
         h' : n < length (drop used bytes)
         h' = rw lent at h
 
-        said' : (x : Said) → said_of (take n (take (length bytes - used) (drop used bytes))) ≡ x → said_of (take n (drop used bytes)) ≡ x
+        said' : (x : Option Line) → said_of (take n (take (length bytes - used) (drop used bytes))) ≡ x → said_of (take n (drop used bytes)) ≡ x
         said' x e = ap (λ (z : List ℕ). said_of (take n z)) (sym lent) ∙ e
 
         -- y is the part of the buffer behind what is written, after the writer
         module _ (y : List ℕ) where
-          pub take-bad : said_of (take n (take (length bytes - used) (drop used bytes))) ≡ said.Bad → y ≡ laid (printed_bad k) (take (length d - written) (drop written d))
+          pub take-bad : said_of (take n (take (length bytes - used) (drop used bytes))) ≡ None → y ≡ laid (printed_bad k) (take (length d - written) (drop written d))
               → length (printed_bad k) ≤ length (take (length d - written) (drop written d)) → (m : ℕ) → m ≡ length (printed_bad k)
               → Owed d₀ bytes s₀ k₀ (record { session = s; count = k; used = used + (n + 1); written = written + m; end = BadLine }) (put_mid written (length d - written) d y)
           unfolding followed ended ahead
@@ -249,12 +248,12 @@ module _ (d₀ bytes : List ℕ) (s₀ : Session) (k₀ : ℕ) where
               let u : used + (length line + 1 + 0) ≡ used + (n + 1) = omega arith in
               let w : length t.text + (length bs + 0) ≡ written + m = omega (arith, t.wrote) in
               let z : t.text ++ (bs ++ []) ≡ t.text ++ bs = ap (λ (x : List ℕ). t.text ++ x) (append-nil bs) in
-              finish (followed line bs (ended s k BadLine)) (sheet-bad (length d₀ - length t.text) s k (drop used bytes) n q' h' (said' said.Bad e) room)
+              finish (followed line bs (ended s k BadLine)) (sheet-bad (length d₀ - length t.text) s k (drop used bytes) n q' h' (said' None e) room)
               (record { session = s; count = k; used = used + (n + 1); written = written + m; end = BadLine }) (cc)
               (put_mid written (length d - written) d y)
               (laid_next d₀ d t.text bs y written t.wrote t.fits t.lies p room ∙ ap (λ (x : List ℕ). x ++ drop (length x) d₀) (sym z))
 
-          pub take-bad-full : said_of (take n (take (length bytes - used) (drop used bytes))) ≡ said.Bad → y ≡ laid (printed_bad k) (take (length d - written) (drop written d))
+          pub take-bad-full : said_of (take n (take (length bytes - used) (drop used bytes))) ≡ None → y ≡ laid (printed_bad k) (take (length d - written) (drop written d))
               → length (take (length d - written) (drop written d)) < length (printed_bad k)
               → Owed d₀ bytes s₀ k₀ (record { session = s; count = k; used = used; written = written; end = NoRoom }) (put_mid written (length d - written) d y)
           take-bad-full e p f =
@@ -263,10 +262,10 @@ module _ (d₀ bytes : List ℕ) (s₀ : Session) (k₀ : ℕ) where
               let room : length d₀ - length t.text < length bs = omega arith in
               subst (λ (x : List ℕ). Owed d₀ bytes s₀ k₀ (record { session = s; count = k; used = used; written = written; end = NoRoom }) x)
               (sym (laid-full d₀ d t.text bs y written t.wrote t.fits t.lies p room))
-              (stop NoRoom (sheet-bad-full (length d₀ - length t.text) s k (drop used bytes) n q' h' (said' said.Bad e) room))
+              (stop NoRoom (sheet-bad-full (length d₀ - length t.text) s k (drop used bytes) n q' h' (said' None e) room))
 
           -- a good line, and the step that it makes
-          module _ (l : Line) (e : said_of (take n (take (length bytes - used) (drop used bytes))) ≡ said.Line l) (p : y ≡ laid (printed (ruled s (message_of l))) (take (length d - written) (drop written d))) where
+          module _ (l : Line) (e : said_of (take n (take (length bytes - used) (drop used bytes))) ≡ Some l) (p : y ≡ laid (printed (ruled s (message_of l))) (take (length d - written) (drop written d))) where
             pub take-full : length (take (length d - written) (drop written d)) < length (printed (ruled s (message_of l)))
                 → Owed d₀ bytes s₀ k₀ (record { session = s; count = k; used = used; written = written; end = NoRoom }) (put_mid written (length d - written) d y)
             take-full f =
@@ -275,7 +274,7 @@ module _ (d₀ bytes : List ℕ) (s₀ : Session) (k₀ : ℕ) where
                 let room : length d₀ - length t.text < length bs = omega arith in
                 subst (λ (x : List ℕ). Owed d₀ bytes s₀ k₀ (record { session = s; count = k; used = used; written = written; end = NoRoom }) x)
                 (sym (laid-full d₀ d t.text bs y written t.wrote t.fits t.lies p room))
-                (stop NoRoom (sheet-full (length d₀ - length t.text) s k (drop used bytes) n q' h' l (said' (said.Line l) e) room))
+                (stop NoRoom (sheet-full (length d₀ - length t.text) s k (drop used bytes) n q' h' l (said' (Some l) e) room))
 
             pub take-line : length (printed (ruled s (message_of l))) ≤ length (take (length d - written) (drop written d)) → (m : ℕ) → m ≡ length (printed (ruled s (message_of l)))
                 → Taking d₀ bytes s₀ k₀ (put_mid written (length d - written) d y) (ruled s (message_of l)).session (next_count k) (used + (n + 1)) (written + m)
@@ -300,7 +299,7 @@ module _ (d₀ bytes : List ℕ) (s₀ : Session) (k₀ : ℕ) where
                       ap₂ (λ (i : ℕ) (x : List ℕ). ahead (used + (n + 1)) (t.text ++ bs) (sheet_of i (ruled s (message_of l)).session (next_count k) x)) (sym r) (sym (drop-drop (n + 1) used bytes))
                       ∙ sym (ahead_more used (n + 1) t.text bs rest)
                       ∙ ap (λ (i : ℕ). ahead used t.text (ahead (i + 1) bs rest)) (sym nl)
-                      ∙ ap (ahead used t.text) (sym (sheet-taken (length d₀ - length t.text) s k (drop used bytes) n q' h' l (said' (said.Line l) e) room))
+                      ∙ ap (ahead used t.text) (sym (sheet-taken (length d₀ - length t.text) s k (drop used bytes) n q' h' l (said' (Some l) e) room))
                       ∙ t.same;
                 }
 

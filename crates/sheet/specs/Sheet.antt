@@ -1,5 +1,5 @@
 -- Daysheet over lent bytes: every whole line read, the session stepped with what it says, and the answer printed.
-use Rattle.std.specs.Prelude.{ℕ, zero, suc, ◌+◌, ◌-◌, true, cond, List, [], ◌∷◌, ◌++◌, eqb, leb, ltb, length, take, drop}
+use Rattle.std.specs.Prelude.{ℕ, zero, suc, ◌+◌, ◌-◌, true, cond, List, [], ◌∷◌, ◌++◌, eqb, leb, ltb, length, take, drop, Option, Some, None}
 use Rattle.wire.specs.Spelled.{spelled}
 use Rattle.spelt.specs.Lines.{line_length}
 use Rattle.session.specs.declared.arrival.Content.{Content}
@@ -11,8 +11,6 @@ use Rattle.session.specs.Rules.{ruled}
 use Rattle.sheet.specs.declared.line.Kind.{Kind}
 use Rattle.sheet.specs.declared.line.Kind.TheVariants.{Logon, Business, GapFill, Reset}
 use Rattle.sheet.specs.declared.line.Line.{Line}
-use Rattle.sheet.specs.declared.line.Said.{Said}
-use Rattle.sheet.specs.declared.line.Said.TheVariants as said
 use Rattle.sheet.specs.declared.sheet.End.{End}
 use Rattle.sheet.specs.declared.sheet.End.TheVariants.{NoLine, NoRoom, BadLine}
 use Rattle.sheet.specs.declared.sheet.Taken.{Taken}
@@ -64,12 +62,12 @@ followed line text rest = record {
 }
 
 -- a line that would print more than there is room for ends it before that line; a bad line is printed by its number and ends it
-unfoldable pub line_said : (ℕ → Session → ℕ → Sheet) → ℕ → Session → ℕ → List ℕ → Said → Sheet
-line_said rest room s k line (said.Line l) =
+unfoldable pub line_said : (ℕ → Session → ℕ → Sheet) → ℕ → Session → ℕ → List ℕ → Option Line → Sheet
+line_said rest room s k line (Some l) =
     cond (leb (length (printed (ruled s (message_of l)))) room)
     (followed line (printed (ruled s (message_of l))) (rest (room - length (printed (ruled s (message_of l)))) (ruled s (message_of l)).session (next_count k)))
     (ended s k NoRoom)
-line_said rest room s k line said.Bad =
+line_said rest room s k line None =
     cond (leb (length (printed_bad k)) room) (followed line (printed_bad k) (ended s k BadLine))
     (ended s k NoRoom)
 

@@ -14,12 +14,9 @@ fn put(d: &mut [u8], at: usize, w: &[u8]) -> usize
     requires { at + length w.now ≤ length d.old }
     ensures { (result ≡ at + length w.now) × (take result d.new ≡ take at d.old ++ w.now) }
 {
-    let mut i = 0;
-    while i < w.len() {
-        d[at + i] = w[i];
-        i += 1;
-    }
-    at + i
+    let end = at + w.len();
+    d[at..end].copy_from_slice(w);
+    end
 }
 
 // A label and a number behind the first `at` bytes of d.

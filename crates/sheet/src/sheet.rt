@@ -4,7 +4,7 @@ ghost use Rattle.wire.specs.Laying.{at_front};
 ghost use Rattle.sheet.specs.Sheet.{content_of, message_of, next_count, sheet_of};
 ghost use Rattle.sheet.specs.Sheet.{begun as begun_session};
 
-use crate::line::{Kind, Line, Said, read_line};
+use crate::line::{Kind, Line, read_line};
 use crate::print::{put_bad, put_printed};
 use session::arrival::{Content, Message};
 use session::state::Session;
@@ -91,7 +91,7 @@ pub fn take_lines(session: Session, count: u64, s: &[u8], d: &mut [u8]) -> Taken
             };
         }
         match read_line(&rest[..n]) {
-            Said::Line(line) => {
+            Some(line) => {
                 let stepped = day.ruled(message_of(line));
                 let laid = put_printed(&mut d[written..], stepped);
                 if laid.refusal() != 0 {
@@ -108,7 +108,7 @@ pub fn take_lines(session: Session, count: u64, s: &[u8], d: &mut [u8]) -> Taken
                 used += n + 1;
                 written += laid.besides();
             }
-            Said::Bad => {
+            None => {
                 let laid = put_bad(&mut d[written..], k);
                 if laid.refusal() != 0 {
                     return Taken {

@@ -1,5 +1,6 @@
 -- What the nine tables say one by one, from what they say together: which of them name a position, and which require it. Assumes nothing.
-use mathlib.Core.Path.{◌≡◌, refl, sym, ap, ◌∙◌}
+use Rattle.std.specs.Prelude.{Some, None}
+use mathlib.Core.Path.{◌≡◌, refl, sym, ap, subst, ◌∙◌}
 use mathlib.Core.Bool.{Bool, true, false, cond, not, ◌||◌, true≢false}
 use mathlib.Core.List.{List, [], ◌∷◌}
 use Prim.Native.Nat.{ℕ, zero, suc, ◌-◌, ◌≤◌, ◌<◌}
@@ -12,7 +13,7 @@ use Rattle.tables.specs.declared.dictionary.Field.{Field}
 use Rattle.tables.specs.declared.table.Row.{Row}
 use Rattle.tables.specs.declared.table.Row.TheVariants.{Required, Optional, UnknownPosition, UnknownType}
 use Rattle.tables.specs.Agree.{row_in_table, nine_row, Names, names-required, names-optional}
-use Rattle.tables.specs.Line.{Line, is_known, is_required, row_at, span}
+use Rattle.tables.specs.Line.{Line, field_of, is_known, is_required, row_at, span}
 use Rattle.tables.specs.Reports.{
   reports,
   add_line,
@@ -225,6 +226,21 @@ tables-known = (refl, refl)
 pub nine-unknown : (k p : ℕ) → 1 ≤ k → k ≤ 9 → is_known (nine_row k p) ≡ false → UnknownPosition ≡ nine_row k p
 unfolding nine_row
 nine-unknown k p l h e = table-unknown nine_tables k p tables-known.0 l (omega (arith, tables-known.1)) e
+
+-- the field that a row names, and no other; a row that names none is not known
+pub names-field : (r : Row) (f : Field) → Some f ≡ field_of r → Names r f
+unfolding field_of
+names-field (Required g) f e = let i : g ≡ f = cc in subst (Names (Required g)) i names-required
+names-field (Optional g) f e = let i : g ≡ f = cc in subst (Names (Optional g)) i names-optional
+names-field UnknownPosition f e = absurd cc
+names-field UnknownType f e = absurd cc
+
+pub known-field : (r : Row) → None ≡ field_of r → is_known r ≡ false
+unfolding field_of is_known
+known-field (Required g) e = absurd cc
+known-field (Optional g) e = absurd cc
+known-field UnknownPosition e = refl
+known-field UnknownType e = refl
 
 -- there is no table 0, and none after the last
 no_table : (ts : List (List Line)) (p : ℕ) → UnknownType ≡ row_in_table ts 0 p

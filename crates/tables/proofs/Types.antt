@@ -101,6 +101,13 @@ has_table (Optional f) = true
 has_table UnknownPosition = true
 has_table UnknownType = false
 
+pub other-table : (r : Row) → (r ≡ UnknownType → ⊥) → has_table r ≡ true
+unfolding has_table
+other-table (Required f) d = refl
+other-table (Optional f) d = refl
+other-table UnknownPosition d = refl
+other-table UnknownType d = absurd (d refl)
+
 abbrev Tells : List (List Line) → Type 0
 Tells ts = has_table (union_at ts 0) ≡ leb 1 (length ts)
 

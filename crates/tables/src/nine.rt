@@ -1,10 +1,8 @@
 // The nine tables of the Execution Report one by one: 004 section 7.8.
-ghost use Rattle.std.specs.Prelude.{◌≡◌, cond, ◌≤◌};
-ghost use Rattle.tables.specs.declared.table.Row.TheVariants as row;
+ghost use Rattle.std.specs.Prelude.{◌≡◌, ◌≤◌};
 ghost use Rattle.tables.specs.Agree.{nine_row};
 ghost use Rattle.tables.specs.Line.{is_known, is_required};
 
-use crate::dictionary::Field;
 use crate::table::{EXECUTION_REPORT, Row, row_of};
 
 // Whether the table of section 7.8.k names this position, k being `table`. Most positions stand in all nine or in none.
@@ -45,34 +43,19 @@ fn is_marked(table: u8, position: usize) -> bool
     }
 }
 
-fn marked(field: Field, required: bool) -> Row
-    ensures { result ≡ cond required (row.Required field) (row.Optional field) }
-{
-    if required {
-        Row::Required(field)
-    } else {
-        Row::Optional(field)
-    }
-}
-
 // What the table of section 7.8.k says of this position, k from 1 to 9; there is no other table.
 pub fn nine_row(table: u8, position: usize) -> Row
     ensures { result ≡ nine_row table position }
 {
-    if table < 1 {
-        return Row::UnknownType;
-    }
-    if 9 < table {
+    if table < 1 || 9 < table {
         return Row::UnknownType;
     }
     if !is_named(table, position) {
         return Row::UnknownPosition;
     }
-    let required = is_marked(table, position);
-    match row_of(EXECUTION_REPORT, position) {
-        Row::Required(field) => marked(field, required),
-        Row::Optional(field) => marked(field, required),
-        Row::UnknownPosition => Row::UnknownPosition,
-        Row::UnknownType => Row::UnknownType,
+    match row_of(EXECUTION_REPORT, position).field() {
+        Some(field) if is_marked(table, position) => Row::Required(field),
+        Some(field) => Row::Optional(field),
+        None => Row::UnknownPosition,
     }
 }

@@ -26,13 +26,11 @@ use Rattle.wire.proofs.MapLaws.{no-bit}
 use Rattle.wire.proofs.NumberLaws.{length-number_bytes}
 use Rattle.wire.proofs.TextLaws.{fixed-again, taken, length-fixed_bytes}
 use Rattle.std.specs.Prelude.{None}
-use Rattle.fields.specs.declared.walk.Walked.TheVariants.{Done}
 use Rattle.tables.specs.declared.table.Row.{Row}
-use Rattle.fields.specs.declared.check.Checked.TheVariants.{Good}
-use Rattle.fields.specs.Check.{check_row, check_sort, fixed, fixed_taken, whole, yes_no}
+use Rattle.fields.specs.Check.{check_row, check_sort, fixed, fixed_taken, whole, yes_no, good_field}
 use Rattle.fields.specs.Sets.{position_of, stands_at, is_row_of, lowest, place_of, lowest_unknown, lowest_missing, unknown_at, unknown_to, missing_at}
 use Rattle.fields.specs.Cut.{positions, extent, extent_of, cut_at, cut}
-use Rattle.fields.specs.Walk.{onward, walk_through, walk_of}
+use Rattle.fields.specs.Walk.{onward, walk_through, walk_of, all_good}
 use Rattle.fields.proofs.BytesLaws.{no_byte}
 use Rattle.fields.proofs.PositionLaws.{later-skip, later-end, positions-split}
 use Rattle.fields.proofs.WalkLaws.{walk_from, walk-on}
@@ -70,7 +68,7 @@ pub record Complete (x : Outgoing) (b plain : ℕ) : Type 0 where
   pub map : x.map ≡ map_of b
   pub known : lowest_unknown (row_of x.head.messagetype) (map_of b) ≡ None
   pub filled : lowest_missing (row_of x.head.messagetype) (map_of b) ≡ None
-  pub walked : walk_from (row_of x.head.messagetype) (positions (map_of b) 8 0) 0 x.body ≡ Done 0 plain
+  pub walked : walk_from (row_of x.head.messagetype) (positions (map_of b) 8 0) 0 x.body ≡ all_good 0 plain
 
 module _ {x : Outgoing} {b plain : ℕ} (c : Complete x b plain) where
   complete-fields : vet_fields (row_of x.head.messagetype) x.map x.body ≡ vetted.Good plain
@@ -93,8 +91,8 @@ module _ {x : Outgoing} {b plain : ℕ} (c : Complete x b plain) where
       )
 
 -- a body of two fields, of j and of k bytes
-walk-two : (rows : ℕ → Row) (p q j k : ℕ) (u v : List ℕ) → length u ≡ j → length v ≡ k → check_row (rows p) (u ++ v) ≡ Good j j
-    → check_row (rows q) v ≡ Good k k → walk_from rows (p ∷ q ∷ []) 0 (u ++ v) ≡ Done 0 (0 + j + k)
+walk-two : (rows : ℕ → Row) (p q j k : ℕ) (u v : List ℕ) → length u ≡ j → length v ≡ k → check_row (rows p) (u ++ v) ≡ good_field j j
+    → check_row (rows q) v ≡ good_field k k → walk_from rows (p ∷ q ∷ []) 0 (u ++ v) ≡ all_good 0 (0 + j + k)
 unfolding walk_from walk_through cut_at
 walk-two rows p q j k u v l m a b =
     walk-on rows p (q ∷ []) 0 j j (u ++ v) a ∙ ap (walk_from rows (q ∷ []) (0 + j)) (drop_at u v j l) ∙ walk-on rows q [] (0 + j) k k v b
@@ -107,13 +105,13 @@ module _ (number : ℕ) (password : List ℕ) (next : ℕ) where
   logon-places = refl
 
   logon-checks : (s : List ℕ) → (check_row (row_of 5 (position_of (row_of 5) Password)) s ≡ fixed Ascii (width_of (sort_of Password)) s)
-      × (check_row (row_of 5 (position_of (row_of 5) NextExpectedMessageSequence)) (number_bytes 4 next) ≡ Good 4 4)
+      × (check_row (row_of 5 (position_of (row_of 5) NextExpectedMessageSequence)) (number_bytes 4 next) ≡ good_field 4 4)
   unfolding position_of stands_at is_row_of entry row_number first_from row_at row_of tables_of union_at table.logon check_row check_sort sort_of width_of whole number_bytes
   logon-checks s = (refl, refl)
 
   module _ (h : takes Ascii (width_of (sort_of Password)) password ≡ true) where
     logon-walk : walk_from (row_of 5) (positions (map_of 160) 8 0) 0 (fixed_bytes (width_of (sort_of Password)) password ++ number_bytes 4 next)
-        ≡ Done 0 (0 + width_of (sort_of Password) + 4)
+        ≡ all_good 0 (0 + width_of (sort_of Password) + 4)
     unfolding fixed fixed_taken
     logon-walk =
         let w = width_of (sort_of Password) in

@@ -1,17 +1,12 @@
--- One byte more stands at the front, and what lies behind it is as it was.
-use Rattle.std.proofs.Common.{◌+◌, ◌<◌, length, ◌∙◌, arith, length-set}
-use Rattle.wire.proofs.NumberLaws.{lay-behind}
-use Rattle.daysheet.proofs.FrontLaws.{front-more}
+-- `daysheet::to_front` meets its contract: the bytes that are moved stand at the front.
+use native.Mathlib.Nat.{zero-add}
+use Rattle.std.proofs.Common.{◌-◌, take, drop, refl, ap, ◌∙◌, arith, length-drop}
+use Rattle.std.proofs.Math.Seq.{take-paste}
 use Rattle.daysheet.proofs.to_front.Goals as goal
 
-pub loop-i-preserved : goal.loop-i-preserved
-loop-i-preserved c =
-    let a = c.args in
-    let l = c.loop-i in
-    let h : a.from + l.i < length a.buf.now = omega arith in
-    let k : l.i < length l.buf = omega arith in (
-      omega arith,
-      length-set l.buf l.i _ ∙ l.invariant.1,
-      lay-behind l.buf a.buf.now l.i _ l.invariant.2,
-      front-more l.buf a.buf.now a.from l.i h k l.invariant.2 l.invariant.3,
-    )
+pub returns : goal.returns
+returns c =
+    let b = c.args.buf.now in
+    let n = c.args.end - c.args.from in
+    let front = simp zero-add at (take-paste b 0 (drop c.args.from b) n (omega arith) (omega (arith, length-drop c.args.from b))) in
+    record { value = λ h k. refl; buf_after = λ h k. ap (take n) (simp zero-add at c.copy_within.ensures.after) ∙ front }

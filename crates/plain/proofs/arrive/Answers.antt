@@ -1,4 +1,4 @@
-use mathlib.Core.Path.{◌≡◌, sym, ◌∙◌}
+use mathlib.Core.Path.{◌≡◌, sym, ap, ◌∙◌}
 use mathlib.Core.Bool.{true}
 use Prim.Native.Nat.{◌+◌, ◌<◌}
 use native.Mathlib.Omega.{arith}
@@ -10,7 +10,7 @@ use Rattle.plain.proofs.arrive.Goals as goal
 use Rattle.plain.proofs.arrive.Goals.{then-count-ge-MOST_ARRIVALS-via-then-count-ge-MOST_ARRIVALS, then-count-ge-MOST_ARRIVALS-via-else-count-ge-MOST_ARRIVALS+then-list-count}
 use Rattle.plain.proofs.arrive.Goals.{else-loop-i-test, then-loop-i-test+else-i-count}
 use Rattle.plain.specs.Arrivals.{lines_in}
-use Rattle.plain.specs.Plain.{follows}
+use Rattle.plain.specs.Plain.{ruled, follows}
 use lib.ListN.{set, take}
 
 pub returns-then-count-ge-MOST_ARRIVALS : goal.returns-then-count-ge-MOST_ARRIVALS
@@ -32,11 +32,11 @@ loop-i-init c =
     let h : a.count < length a.list.now = c.if-list-count.false in
     walked_none _ a.count _ (omega (arith, h, length-set a.list.now a.count c.numbers.result))
 
-pub slice_copy_out-a : goal.slice_copy_out-a
-slice_copy_out-a c = omega (arith, c.loop-i.invariant.within, c.loop-i.invariant.below)
+pub bounds-list-i : goal.bounds-list-i
+bounds-list-i c = omega (arith, c.loop-i.invariant.within, c.loop-i.invariant.below)
 
 pub loop-i-preserved : goal.loop-i-preserved
-loop-i-preserved c = walked_next _ _ _ _ _ c.loop-i.invariant c.if-i-count.true _ c.ruled-told.ensures
+loop-i-preserved c = walked_next _ _ _ _ _ c.loop-i.invariant c.if-i-count.true _ (c.ruled-told.ensures ∙ ap (ruled c.loop-i.told.day) c.line_in.ensures)
 
 pub shape_of-list : goal.shape_of-list
 shape_of-list c =
@@ -53,7 +53,7 @@ returns c =
     let w = c.loop-i.invariant in
     let last : c.loop-i-test.told ≡ follows c.tells-told.result (lines_in (take (a.count + 1) (set l a.count c.numbers.result))) = elim c.loop-i-test.branch [
       | else-loop-i-test u ↦ absurd (omega (arith, u.loop-i-test.false, w.within))
-      | then-loop-i-test+else-i-count u ↦ u.told-is ∙ walked-last _ _ _ _ _ w (omega arith) _ u.ruled-told.ensures
+      | then-loop-i-test+else-i-count u ↦ u.told-is ∙ walked-last _ _ _ _ _ w (omega arith) _ (u.ruled-told.ensures ∙ ap (ruled c.loop-i.told.day) u.line_in.ensures)
     ] in
     let k = walked-answer l a.count a.line _ _ _ room x c.tells-told.ensures last in
     record { value = k.0; list_after = k.1 }

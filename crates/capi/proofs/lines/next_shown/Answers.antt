@@ -2,10 +2,10 @@
 use Rattle.capi.specs.Lines.{shown_next}
 use Rattle.capi.proofs.lines.next_shown.Goals as goal
 
-pub returns-in-At : goal.returns-in-At
+pub returns-in-Some : goal.returns-in-Some
 unfolding shown_next
-returns-in-At c = simp c.in-At.is
+returns-in-Some c = simp c.in-Some.is
 
-pub returns-in-Never : goal.returns-in-Never
+pub returns-in-None : goal.returns-in-None
 unfolding shown_next
-returns-in-Never c = simp c.in-Never.is
+returns-in-None c = simp c.in-None.is

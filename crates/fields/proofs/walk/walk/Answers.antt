@@ -28,15 +28,15 @@ loop-j-init c =
 
 pub slice_bounds-rest-count : goal.slice_bounds-rest-count
 slice_bounds-rest-count c =
-    (row_within _ _ _ _ (sym c.check_at.ensures ∙ c.in-Good.is)).1
+    (row_within _ _ _ _ (sym c.check_at.ensures ∙ c.in-Ok.is)).1
 
 pub slice_bounds-rest-start : goal.slice_bounds-rest-start
 slice_bounds-rest-start c =
-    (row_within _ _ _ _ (sym c.check_at.ensures ∙ c.in-Good.is)).1
+    (row_within _ _ _ _ (sym c.check_at.ensures ∙ c.in-Ok.is)).1
 
 pub overflow_add-sum : goal.overflow_add-sum
 overflow_add-sum c =
-    let g = row_within _ _ _ _ (sym c.check_at.ensures ∙ c.in-Good.is) in
+    let g = row_within _ _ _ _ (sym c.check_at.ensures ∙ c.in-Ok.is) in
     omega (arith, g.0, g.1)
 
 pub loop-j-smaller : goal.loop-j-smaller
@@ -48,7 +48,7 @@ loop-j-preserved c =
     let t = c.loop-j-test.true in
     let x = c.next_bit-j-in-loop-j.ensures in
     let y = next-of _ _ _ x in
-    let e = sym c.check_at.ensures ∙ c.in-Good.is in
+    let e = sym c.check_at.ensures ∙ c.in-Ok.is in
     let g = row_within _ _ _ _ e in (
       y.within,
       y.set,
@@ -75,8 +75,8 @@ returns-then-i-end c =
     walk_end (row_of _) _ 256 _ (i * 8) _ _
     (later-none m (i * 8) (omega arith) (subst (λ (n : ℕ). ClearFrom (n * 8) m) (sym c.if-i-end.true) c.end_of-end.ensures.rest)) c.walk.invariant.3
 
-pub returns-in-Bad : goal.returns-in-Bad
-returns-in-Bad c =
+pub returns-in-Err : goal.returns-in-Err
+returns-in-Err c =
     let t = c.loop-j-test.true in
     walk-bad (row_of _) _ 256 _ _ c.loop-j.j _ _ (omega arith) t (c.loop-j.invariant.1 t) c.loop-j.invariant.3
-    _ (sym c.check_at.ensures ∙ c.in-Bad.is)
+    _ (sym c.check_at.ensures ∙ c.in-Err.is)

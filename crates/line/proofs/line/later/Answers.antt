@@ -1,12 +1,17 @@
 -- `line::line::later` meets its contract.
-use borrow.Author.Tests.{lt-ltb, le-ltb}
+use Prim.Native.Nat.{ℕ, max}
+use mathlib.Core.Path.{◌≡◌, sym, ◌∙◌}
+use native.Mathlib.Omega.{arith}
+use lib.Dec.{ltb}
+use borrow.Author.Tests.{ltb-true, ltb-false}
+use Rattle.wire.proofs.TestLaws.{either}
 use Rattle.line.specs.Line.{later}
 use Rattle.line.proofs.line.later.Goals as goal
 
-pub returns-then-t-now : goal.returns-then-t-now
+greatest : (n t : ℕ) → later n t ≡ max n t
 unfolding later
-returns-then-t-now c = simp (lt-ltb _ _ c.if-t-now.true)
+greatest n t =
+    either (λ (x : ℕ). x ≡ max n t) (ltb t n) (λ u. omega (arith, ltb-true t n u)) (λ u. omega (arith, ltb-false t n u))
 
-pub returns-else-t-now : goal.returns-else-t-now
-unfolding later
-returns-else-t-now c = simp (le-ltb _ _ c.if-t-now.false)
+pub returns : goal.returns
+returns c = c.max.ensures ∙ sym (greatest c.args.now c.args.t)

@@ -1,20 +1,26 @@
 -- `line::tick::earlier` meets its contract.
-use borrow.Author.Tests.{lt-ltb, le-ltb}
+use Prim.Native.Nat.{ℕ, min}
+use mathlib.Core.Path.{◌≡◌}
+use mathlib.Core.Bool.{cond}
+use native.Mathlib.Omega.{arith}
+use lib.Dec.{ltb}
+use borrow.Author.Tests.{ltb-true, ltb-false}
+use Rattle.wire.proofs.TestLaws.{either}
 use Rattle.line.specs.Tick.{earlier}
 use Rattle.line.proofs.tick.earlier.Goals as goal
 
-pub returns-then-b-a : goal.returns-then-b-a
-unfolding earlier
-returns-then-b-a c = simp (c.in-At.is, c.in-At-other.is, lt-ltb _ _ c.if-b-a.true)
+least : (a b : ℕ) → cond (ltb b a) b a ≡ min a b
+least a b =
+    either (λ (x : ℕ). x ≡ min a b) (ltb b a) (λ u. omega (arith, ltb-true b a u)) (λ u. omega (arith, ltb-false b a u))
 
-pub returns-else-b-a : goal.returns-else-b-a
+pub returns-in-Some-other : goal.returns-in-Some-other
 unfolding earlier
-returns-else-b-a c = simp (c.in-At.is, c.in-At-other.is, le-ltb _ _ c.if-b-a.false)
+returns-in-Some-other c = simp (c.in-Some.is, c.in-Some-other.is, c.min.ensures, least c.in-Some.a c.in-Some-other.b)
 
-pub returns-in-Never-other : goal.returns-in-Never-other
+pub returns-in-None-other : goal.returns-in-None-other
 unfolding earlier
-returns-in-Never-other c = simp (c.in-At.is, c.in-Never-other.is)
+returns-in-None-other c = simp (c.in-Some.is, c.in-None-other.is)
 
-pub returns-in-Never : goal.returns-in-Never
+pub returns-in-None : goal.returns-in-None
 unfolding earlier
-returns-in-Never c = simp c.in-Never.is
+returns-in-None c = simp c.in-None.is

@@ -2,10 +2,10 @@
 use Rattle.line.specs.Tick.{own_act}
 use Rattle.line.proofs.tick.own_act.Goals as goal
 
-pub returns-then-test : goal.returns-then-test
+pub returns-in-TestRequest : goal.returns-in-TestRequest
 unfolding own_act
-returns-then-test c = simp (c.id_of.ensures, c.if-test.true)
+returns-in-TestRequest c = simp (c.id_of.ensures, c.in-TestRequest.is)
 
-pub returns : goal.returns
+pub returns-in-Heartbeat : goal.returns-in-Heartbeat
 unfolding own_act
-returns c = simp c.if-test.false
+returns-in-Heartbeat c = simp c.in-Heartbeat.is

@@ -20,7 +20,7 @@ returns-then-left-eq0 c =
     simp (
       sym c.lowest_unknown.ensures ∙ c.in_default.is,
       sym c.lowest_missing.ensures ∙ c.in_default-lowest_missing.is,
-      sym c.walk.ensures ∙ c.in-Done.is,
+      sym c.walk.ensures ∙ c.in-Ok.is,
       eq-eqb _ 0 c.if-left-eq0.true,
     )
 
@@ -30,16 +30,16 @@ returns-else-left-eq0 c =
     simp (
       sym c.lowest_unknown.ensures ∙ c.in_default.is,
       sym c.lowest_missing.ensures ∙ c.in_default-lowest_missing.is,
-      sym c.walk.ensures ∙ c.in-Done.is,
+      sym c.walk.ensures ∙ c.in-Ok.is,
       ne_eqb _ 0 c.if-left-eq0.false,
     )
 
-pub returns-in-BadAt : goal.returns-in-BadAt
+pub returns-in-Err : goal.returns-in-Err
 unfolding vet_fields vet_sets vet_place vet_walk
-returns-in-BadAt c =
+returns-in-Err c =
     simp (
       sym c.lowest_unknown.ensures ∙ c.in_default.is,
       sym c.lowest_missing.ensures ∙ c.in_default-lowest_missing.is,
-      sym c.walk.ensures ∙ c.in-BadAt.is,
+      sym c.walk.ensures ∙ c.in-Err.is,
       c.bad_at.ensures,
     )

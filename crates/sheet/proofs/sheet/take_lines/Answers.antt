@@ -7,7 +7,7 @@ use borrow.Rule.Slice.PartMut.{put_mid, same_len_mid}
 use Rattle.wire.specs.Laying.{laid, laid_answer, refusal, besides}
 use Rattle.session.specs.declared.state.Stepped.{Stepped}
 use Rattle.session.specs.Rules.{ruled}
-use Rattle.sheet.specs.declared.line.Said.TheVariants as said
+use Rattle.std.specs.Prelude.{Some, None}
 use Rattle.sheet.specs.Line.{said_of}
 use Rattle.sheet.specs.Print.{printed, printed_bad}
 use Rattle.sheet.specs.Sheet.{message_of}
@@ -104,8 +104,8 @@ returns-then-refusal-ne0 c =
     let h : f.result < length lent = omega (arith, f.ensures.1, lent_length used bytes, c.if-n-rest.false) in
     let x = take (length d - written) (drop written d) in
     let r = c.put_printed-laid in
-    let l = c.in-Line.line in
-    let e : said_of (take f.result lent) ≡ said.Line l = sym c.read_line.ensures ∙ c.in-Line.is in
+    let l = c.in-Some.line in
+    let e : said_of (take f.result lent) ≡ Some l = sym c.read_line.ensures ∙ c.in-Some.is in
     let st : c.ruled-stepped.result ≡ ruled c.loop-rest.day (message_of l) = c.ruled-stepped.ensures ∙ ap (ruled c.loop-rest.day) c.message_of.ensures in
     let bs = printed (ruled c.loop-rest.day (message_of l)) in
     let an : r.result ≡ laid_answer bs x = r.ensures.0 ∙ ap (λ (z : Stepped). laid_answer (printed z) x) st in
@@ -130,8 +130,8 @@ overflow_add-used c =
     let k : length lent ≡ length bytes - used = lent_length used bytes in
     omega arith
 
-pub overflow_add-used-in-Line : goal.overflow_add-used-in-Line
-overflow_add-used-in-Line c =
+pub overflow_add-used-in-Some : goal.overflow_add-used-in-Some
+overflow_add-used-in-Some c =
     let a = c.args in
     let bytes = a.s.now in
     let d = c.loop-rest.d in
@@ -157,8 +157,8 @@ overflow_add-written c =
     let h : f.result < length lent = omega (arith, f.ensures.1, lent_length used bytes, c.if-n-rest.false) in
     let x = take (length d - written) (drop written d) in
     let r = c.put_printed-laid in
-    let l = c.in-Line.line in
-    let e : said_of (take f.result lent) ≡ said.Line l = sym c.read_line.ensures ∙ c.in-Line.is in
+    let l = c.in-Some.line in
+    let e : said_of (take f.result lent) ≡ Some l = sym c.read_line.ensures ∙ c.in-Some.is in
     let st : c.ruled-stepped.result ≡ ruled c.loop-rest.day (message_of l) = c.ruled-stepped.ensures ∙ ap (ruled c.loop-rest.day) c.message_of.ensures in
     let bs = printed (ruled c.loop-rest.day (message_of l)) in
     let an : r.result ≡ laid_answer bs x = r.ensures.0 ∙ ap (λ (z : Stepped). laid_answer (printed z) x) st in
@@ -197,8 +197,8 @@ loop-rest-preserved c =
     let h : f.result < length lent = omega (arith, f.ensures.1, lent_length used bytes, c.if-n-rest.false) in
     let x = take (length d - written) (drop written d) in
     let r = c.put_printed-laid in
-    let l = c.in-Line.line in
-    let e : said_of (take f.result lent) ≡ said.Line l = sym c.read_line.ensures ∙ c.in-Line.is in
+    let l = c.in-Some.line in
+    let e : said_of (take f.result lent) ≡ Some l = sym c.read_line.ensures ∙ c.in-Some.is in
     let st : c.ruled-stepped.result ≡ ruled c.loop-rest.day (message_of l) = c.ruled-stepped.ensures ∙ ap (ruled c.loop-rest.day) c.message_of.ensures in
     let bs = printed (ruled c.loop-rest.day (message_of l)) in
     let an : r.result ≡ laid_answer bs x = r.ensures.0 ∙ ap (λ (z : Stepped). laid_answer (printed z) x) st in
@@ -257,8 +257,8 @@ returns-then-refusal-ne0-2 c =
     let x = take (length d - written) (drop written d) in
     let r = c.put_bad-laid in
     let k = c.loop-rest.k in
-    let e : said_of (take f.result lent) ≡ said.Bad = sym c.read_line.ensures ∙ c.in-Bad.is in
-    let rf : c.refusal-in-Bad.result ≡ refusal (laid_answer (printed_bad k) x) = c.refusal-in-Bad.ensures ∙ ap refusal r.ensures.0 in
+    let e : said_of (take f.result lent) ≡ None = sym c.read_line.ensures ∙ c.in-None.is in
+    let rf : c.refusal-in-None.result ≡ refusal (laid_answer (printed_bad k) x) = c.refusal-in-None.ensures ∙ ap refusal r.ensures.0 in
     let full : length x < length (printed_bad k) = answer-full (printed_bad k) x (λ z. c.if-refusal-ne0-2.true (rf ∙ z)) in
     let o = take-bad-full a.d.now bytes a.session a.count d c.loop-rest.day c.loop-rest.k used written c.loop-rest.invariant f.result f.ensures.0 h r.new.d e r.ensures.1 full in
     record { value = o.answer; d_after = o.buffer }
@@ -278,8 +278,8 @@ overflow_add-result c =
     let k : length lent ≡ length bytes - used = lent_length used bytes in
     omega arith
 
-pub overflow_add-result-in-Bad : goal.overflow_add-result-in-Bad
-overflow_add-result-in-Bad c =
+pub overflow_add-result-in-None : goal.overflow_add-result-in-None
+overflow_add-result-in-None c =
     let a = c.args in
     let bytes = a.s.now in
     let d = c.loop-rest.d in
@@ -293,8 +293,8 @@ overflow_add-result-in-Bad c =
     let k : length lent ≡ length bytes - used = lent_length used bytes in
     omega arith
 
-pub overflow_add-result-in-Bad-2 : goal.overflow_add-result-in-Bad-2
-overflow_add-result-in-Bad-2 c =
+pub overflow_add-result-in-None-2 : goal.overflow_add-result-in-None-2
+overflow_add-result-in-None-2 c =
     let a = c.args in
     let bytes = a.s.now in
     let d = c.loop-rest.d in
@@ -306,16 +306,16 @@ overflow_add-result-in-Bad-2 c =
     let x = take (length d - written) (drop written d) in
     let r = c.put_bad-laid in
     let k = c.loop-rest.k in
-    let e : said_of (take f.result lent) ≡ said.Bad = sym c.read_line.ensures ∙ c.in-Bad.is in
-    let rf : c.refusal-in-Bad.result ≡ refusal (laid_answer (printed_bad k) x) = c.refusal-in-Bad.ensures ∙ ap refusal r.ensures.0 in
+    let e : said_of (take f.result lent) ≡ None = sym c.read_line.ensures ∙ c.in-None.is in
+    let rf : c.refusal-in-None.result ≡ refusal (laid_answer (printed_bad k) x) = c.refusal-in-None.ensures ∙ ap refusal r.ensures.0 in
     let fit : length (printed_bad k) ≤ length x = answer-fits (printed_bad k) x (sym rf ∙ c.if-refusal-ne0-2.false) in
     let m : c.besides.result ≡ length (printed_bad k) = c.besides.ensures ∙ ap besides r.ensures.0 ∙ answer-besides (printed_bad k) x in
     let j : length x ≡ length d - written = lent_length written d in
     let g = taking-length a.d.now bytes a.session a.count d c.loop-rest.day c.loop-rest.k used written c.loop-rest.invariant in
     omega arith
 
-pub shape_of-d-in-Bad : goal.shape_of-d-in-Bad
-shape_of-d-in-Bad c =
+pub shape_of-d-in-None : goal.shape_of-d-in-None
+shape_of-d-in-None c =
     let a = c.args in
     let bytes = a.s.now in
     let d = c.loop-rest.d in
@@ -324,8 +324,8 @@ shape_of-d-in-Bad c =
     let lent = take (length bytes - used) (drop used bytes) in
     same_len_mid written (length d - written) d c.put_bad-laid.new.d c.put_bad-laid.auto.d ∙ (taking-length a.d.now bytes a.session a.count d c.loop-rest.day c.loop-rest.k used written c.loop-rest.invariant).0
 
-pub returns-in-Bad : goal.returns-in-Bad
-returns-in-Bad c =
+pub returns-in-None : goal.returns-in-None
+returns-in-None c =
     let a = c.args in
     let bytes = a.s.now in
     let d = c.loop-rest.d in
@@ -337,8 +337,8 @@ returns-in-Bad c =
     let x = take (length d - written) (drop written d) in
     let r = c.put_bad-laid in
     let k = c.loop-rest.k in
-    let e : said_of (take f.result lent) ≡ said.Bad = sym c.read_line.ensures ∙ c.in-Bad.is in
-    let rf : c.refusal-in-Bad.result ≡ refusal (laid_answer (printed_bad k) x) = c.refusal-in-Bad.ensures ∙ ap refusal r.ensures.0 in
+    let e : said_of (take f.result lent) ≡ None = sym c.read_line.ensures ∙ c.in-None.is in
+    let rf : c.refusal-in-None.result ≡ refusal (laid_answer (printed_bad k) x) = c.refusal-in-None.ensures ∙ ap refusal r.ensures.0 in
     let fit : length (printed_bad k) ≤ length x = answer-fits (printed_bad k) x (sym rf ∙ c.if-refusal-ne0-2.false) in
     let m : c.besides.result ≡ length (printed_bad k) = c.besides.ensures ∙ ap besides r.ensures.0 ∙ answer-besides (printed_bad k) x in
     let o = take-bad a.d.now bytes a.session a.count d c.loop-rest.day c.loop-rest.k used written c.loop-rest.invariant f.result f.ensures.0 h r.new.d e r.ensures.1 fit c.besides.result m in

@@ -1,19 +1,24 @@
 -- `tables::nine::nine_row` meets its contract: the report's field, if the table names the position, with the table's own mark. Assumes nothing.
-use mathlib.Core.Path.{◌≡◌, sym, ap, subst, ◌∙◌}
-use mathlib.Core.Bool.{Bool, cond, true≢false}
+use mathlib.Core.Path.{◌≡◌, sym, ap, ◌∙◌}
+use Rattle.std.specs.Prelude.{ℕ, Some}
+use mathlib.Core.Bool.{Bool, true, cond, true≢false}
+use Rattle.tables.specs.declared.dictionary.Field.{Field}
 use Rattle.tables.specs.declared.table.Row.{Row}
-use Rattle.tables.specs.declared.table.Row.TheVariants.{Required, Optional, UnknownPosition, UnknownType}
-use Rattle.tables.specs.Agree.{Names, names-required, names-optional}
-use Rattle.tables.specs.Line.{is_known}
+use Rattle.tables.specs.declared.table.Row.TheVariants.{Required, Optional}
+use Rattle.tables.specs.Line.{is_known, is_required, field_of}
 use Rattle.tables.specs.Tables.{row_of}
-use Rattle.tables.proofs.NineLaws.{known-in-report, by-mark, nine-unknown, nine-none, nine-past}
+use Rattle.tables.specs.Agree.{nine_row}
+use Rattle.tables.proofs.NineLaws.{known-in-report, by-mark, names-field, known-field, nine-unknown, nine-none, nine-past}
+use Rattle.tables.proofs.nine.nine_row.Goals.{then-table-lt1-via-then-table-lt1, then-table-lt1-via-else-table-lt1+then-table-gt9}
 use Rattle.tables.proofs.nine.nine_row.Goals as goal
 
 pub returns-then-table-lt1 : goal.returns-then-table-lt1
-returns-then-table-lt1 c = nine-none c.args.table c.args.position c.if-table-lt1.true
-
-pub returns-then-table-gt9 : goal.returns-then-table-gt9
-returns-then-table-gt9 c = let a = c.args in nine-past a.table a.position c.if-table-gt9.true
+returns-then-table-lt1 c =
+    let a = c.args in
+    elim c.then-table-lt1.branch [
+      | then-table-lt1-via-then-table-lt1 w ↦ nine-none a.table a.position w.if-table-lt1.true
+      | then-table-lt1-via-else-table-lt1+then-table-gt9 w ↦ nine-past a.table a.position w.if-table-gt9.true
+    ]
 
 pub returns-then-not-is_named : goal.returns-then-not-is_named
 returns-then-not-is_named c =
@@ -21,36 +26,29 @@ returns-then-not-is_named c =
     let e = sym c.is_named.ensures ∙ c.if-not-is_named.true in
     nine-unknown a.table a.position c.if-table-lt1.false c.if-table-gt9.false e
 
-pub returns-in-Required : goal.returns-in-Required
-returns-in-Required c =
-    let a = c.args in
-    let known = sym c.is_named.ensures ∙ c.if-not-is_named.false in
-    let f = c.in-Required.field in
-    let e : Required f ≡ row_of 10 a.position = sym c.in-Required.is ∙ c.row_of.ensures in
-    c.marked.ensures ∙ ap (λ (b : Bool). cond b (Required f) (Optional f)) c.is_marked-required.ensures
-    ∙ by-mark a.table a.position f known (subst (λ (r : Row). Names r f) e names-required)
+-- the field that the report's row names, with the mark that the table gives
+marked : (k p : ℕ) (f : Field) (r : Row) (b n : Bool) → r ≡ row_of 10 p → Some f ≡ field_of r → n ≡ is_known (nine_row k p) → n ≡ true
+    → b ≡ is_required (nine_row k p) → cond b (Required f) (Optional f) ≡ nine_row k p
+marked k p f r b n at e named known mark =
+    ap (λ (x : Bool). cond x (Required f) (Optional f)) mark ∙ by-mark k p f (sym named ∙ known) (names-field (row_of 10 p) f (e ∙ ap field_of at))
 
-pub returns-in-Optional : goal.returns-in-Optional
-returns-in-Optional c =
+pub returns-in-Some : goal.returns-in-Some
+returns-in-Some c =
     let a = c.args in
-    let known = sym c.is_named.ensures ∙ c.if-not-is_named.false in
-    let f = c.in-Optional.field in
-    let e : Optional f ≡ row_of 10 a.position = sym c.in-Optional.is ∙ c.row_of.ensures in
-    c.marked-in-Optional.ensures ∙ ap (λ (b : Bool). cond b (Required f) (Optional f)) c.is_marked-required.ensures
-    ∙ by-mark a.table a.position f known (subst (λ (r : Row). Names r f) e names-optional)
+    let f = c.in-Some.field in
+    ap (λ (x : Bool). cond x (Required f) (Optional f)) (sym c.if-is_marked.true)
+    ∙ marked a.table a.position f c.row_of.result _ _ c.row_of.ensures (sym c.in-Some.is ∙ c.field.ensures) c.is_named.ensures c.if-not-is_named.false c.is_marked.ensures
 
-pub returns-in-UnknownPosition : goal.returns-in-UnknownPosition
-unfolding is_known
-returns-in-UnknownPosition c =
+pub returns-in-Some-2 : goal.returns-in-Some-2
+returns-in-Some-2 c =
     let a = c.args in
-    let known = sym c.is_named.ensures ∙ c.if-not-is_named.false in
-    let e : row_of 10 a.position ≡ UnknownPosition = sym c.row_of.ensures ∙ c.in-UnknownPosition.is in
-    absurd (true≢false (sym (known-in-report a.table a.position known) ∙ ap is_known e))
+    let f = c.in-Some.field in
+    ap (λ (x : Bool). cond x (Required f) (Optional f)) (sym c.if-is_marked.false)
+    ∙ marked a.table a.position f c.row_of.result _ _ c.row_of.ensures (sym c.in-Some.is ∙ c.field.ensures) c.is_named.ensures c.if-not-is_named.false c.is_marked.ensures
 
-pub returns-in-UnknownType : goal.returns-in-UnknownType
-unfolding is_known
-returns-in-UnknownType c =
+pub returns-in-None : goal.returns-in-None
+returns-in-None c =
     let a = c.args in
-    let known = sym c.is_named.ensures ∙ c.if-not-is_named.false in
-    let e : row_of 10 a.position ≡ UnknownType = sym c.row_of.ensures ∙ c.in-UnknownType.is in
-    absurd (true≢false (sym (known-in-report a.table a.position known) ∙ ap is_known e))
+    let known = known-in-report a.table a.position (sym c.is_named.ensures ∙ c.if-not-is_named.false) in
+    let none = sym c.in-None.is ∙ c.field.ensures ∙ ap field_of c.row_of.ensures in
+    absurd (true≢false (sym known ∙ known-field (row_of 10 a.position) none))

@@ -5,8 +5,8 @@ use Rattle.line.proofs.line.Line.numbered.Goals as goal
 
 pub returns-then-code_number-ne0 : goal.returns-then-code_number-ne0
 unfolding numbered
-returns-then-code_number-ne0 c = simp (c.says.ensures, c.moved.ensures, ← c.own_number-owned.ensures, ← c.code_number.ensures, ne_eqb _ 0 c.if-code_number-ne0.true)
+returns-then-code_number-ne0 c = simp (c.moved.ensures, ← c.own_number-owned.ensures, ← c.code_number.ensures, ne_eqb _ 0 c.if-code_number-ne0.true)
 
 pub returns : goal.returns
 unfolding numbered
-returns c = simp (c.says-2.ensures, c.own_act.ensures, c.with_test.ensures, c.moved-line.ensures, ← c.own_number-owned.ensures, ← c.code_number.ensures, eq-eqb _ 0 c.if-code_number-ne0.false)
+returns c = simp (c.own_act.ensures, c.with_test.ensures, c.moved-line.ensures, ← c.own_number-owned.ensures, ← c.code_number.ensures, eq-eqb _ 0 c.if-code_number-ne0.false)

@@ -1,5 +1,5 @@
 -- `tables::table::Row::is_required` meets its contract: there is no other row. Assumes nothing.
-use Rattle.std.proofs.Common.{refl, arith}
+use Rattle.std.proofs.Common.{arith}
 use Rattle.tables.specs.Line.{is_required}
 use Rattle.tables.proofs.table.Row.is_required.Goals as goal
 

@@ -5,13 +5,10 @@ use mathlib.Core.Bool.{true}
 use lib.ListN.{length, get_or}
 use Rattle.sheet.specs.Line.{is_digit}
 use Rattle.sheet.proofs.LineLaws.{Reading, reading-none, reading-more, reading-ends, digit-range}
-use Rattle.sheet.proofs.line.number_in.Goals as goal
+use Rattle.sheet.proofs.line.digits_in.Goals as goal
 
 pub loop-i-init : goal.loop-i-init
 loop-i-init c = reading-none c.args.s.now
-
-pub bounds-s-i : goal.bounds-s-i
-bounds-s-i c = omega arith
 
 pub returns-then-not-is_digit : goal.returns-then-not-is_digit
 returns-then-not-is_digit c =
@@ -24,12 +21,6 @@ with_digit-value-requires c =
     let r = digit-range b (sym c.is_digit.ensures ∙ c.if-not-is_digit.false) in
     (c.loop-i.invariant.small, r.0, r.1)
 
-pub overflow_add-i : goal.overflow_add-i
-overflow_add-i c = omega arith
-
-pub loop-i-smaller : goal.loop-i-smaller
-loop-i-smaller c = omega arith
-
 pub loop-i-preserved : goal.loop-i-preserved
 loop-i-preserved c =
     let s = c.args.s.now in
@@ -41,4 +32,5 @@ loop-i-preserved c =
 pub returns : goal.returns
 returns c =
     let s = c.args.s.now in
-    reading-ends s c.loop-i.value c.loop-i.i c.loop-i.invariant (λ h. absurd (omega arith))
+    let ended : c.loop-i.i ≡ length s = omega arith in
+    reading-ends s c.loop-i.value (length s) (subst (λ (i : ℕ). Reading s c.loop-i.value i) ended c.loop-i.invariant) (λ h. absurd (omega arith))
