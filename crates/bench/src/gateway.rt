@@ -40,7 +40,8 @@ fn look(list: &[u8], s: &[u8], n: usize) -> Result<(bool, usize), Fault> {
     }
 }
 
-// A mark for each message of the list: 1 for a business number, 0 for a session number.
+// A mark for each message of the list: 1 for a business number, 0 for a session number. A loop and no chain: each turn's step is the message's own
+// length.
 fn mark_list(rt: &impl AllocGlobal, list: &[u8]) -> Result<Vec<u8>, Failure> {
     let mut marks = Vec::new(rt.alloc());
     let mut rest = list;
@@ -67,7 +68,7 @@ fn put_again(d: &mut [u8], s: &[u8]) -> Written {
         ..header_in(s)
     };
     let mut map = [0u8; MAP_BYTES];
-    put_bytes(&mut map, map_in(s));
+    let _ = put_bytes(&mut map, map_in(s));
     write(d, header, comp_id_in(s), &map, body_in(front_length(s), s))
 }
 
@@ -88,7 +89,7 @@ fn send_part(rt: &impl Print, s: &[u8], first: u32, new: u32) -> Result<(), Comp
     }
 }
 
-// The list from this number on.
+// The list from this number on. A loop and no chain: each turn's step is the message's own length.
 fn from_number(list: &[u8], number: u32) -> Option<&[u8]> {
     let mut rest = list;
     while header_in(rest).number != number {

@@ -20,7 +20,7 @@ use sheet::sheet::{End, begun, next_count, take_lines};
 use spelt::line_length;
 use std::env::{Env, FillError};
 use std::io::Read;
-use wire::laying::Laid;
+use wire::laying::NotLaid;
 
 // Room for a word of the command line.
 const A_WORD: usize = 4096;
@@ -97,7 +97,7 @@ fn more(
     let kept = to_front(buf, unread.from, unread.end);
     if buf.len() <= kept {
         let laid = put_bad(out, count);
-        print(rt, out.get(..laid.besides()).unwrap_or(&[]));
+        print(rt, out.get(..laid.unwrap_or(0)).unwrap_or(&[]));
         return None;
     }
     let Ok(came) = input.read(&mut buf[kept..]) else {
@@ -152,7 +152,7 @@ fn expected(day: Day) -> u32
 }
 
 // The line of the plain recorder's answer.
-fn tell(told: Told, out: &mut [u8]) -> Laid
+fn tell(told: Told, out: &mut [u8]) -> Result<usize, NotLaid>
     ensures value { result ≡ laid_answer (line_text told.row (expected_in told.day) told.send) out.old }
     ensures out_after { out.new ≡ laid (line_text told.row (expected_in told.day) told.send) out.old }
 {
@@ -185,7 +185,7 @@ fn plain(kept: usize, count: u64, s: &[u8], list: &mut [[u32; 4]], out: &mut [u8
         recorder: Recorder::Plain { kept },
         count: next_count(count),
         used: n + 1,
-        written: laid.besides(),
+        written: laid.unwrap_or(0),
         next,
     }
 }

@@ -1,4 +1,5 @@
 -- What is made of bytes is bytes: parts one behind another, texts in plain form, a map with one position more, and the plain form of a body.
+use Rattle.std.proofs.Common.{Option, Some, None}
 use mathlib.Core.Path.{◌≡◌, refl}
 use mathlib.Core.List.{List, [], ◌∷◌, ◌++◌}
 use Prim.Native.Nat.{ℕ, zero, suc, ◌+◌, ◌-◌, ◌/◌, ◌%◌, ◌<◌}
@@ -12,7 +13,6 @@ use Rattle.tables.specs.declared.table.Row.{Row}
 use Rattle.tables.specs.declared.table.Row.TheVariants.{Required, Optional, UnknownPosition, UnknownType}
 use Rattle.tables.specs.Dictionary.{sort_of}
 use Rattle.wire.specs.declared.text.Text.{Text}
-use Rattle.wire.specs.declared.text.Text.TheVariants as text
 use Rattle.wire.specs.Map.{bit_at, with_bit, with_position, map_positions}
 use Rattle.wire.specs.Number.{Bytes, number_bytes}
 use Rattle.wire.specs.Text.{fixed_text, variable_text, characters_of, fixed_part, variable_part, fixed_bytes, variable_bytes}
@@ -70,10 +70,10 @@ bytes-with p m b =
     either Bytes (ltb (p / 8) (length m)) (λ e. bytes-set m (p / 8) (with_bit old (p % 8)) b small) (λ e. b)
 
 -- the plain form of a body
-part_bytes : (t : Text) (s : List ℕ) → Bytes s → Bytes (characters_of t s)
+part_bytes : (t : Option Text) (s : List ℕ) → Bytes s → Bytes (characters_of t s)
 unfolding characters_of
-part_bytes (text.Good n taken) s b = bytes_take n s b
-part_bytes text.Bad s b = bytes-none
+part_bytes (Some text) s b = bytes_take text.characters s b
+part_bytes None s b = bytes-none
 
 sort-bytes : (sort : Sort) (s : List ℕ) → Bytes s → Bytes (plain_sort sort s)
 unfolding plain_sort fixed_part variable_part

@@ -1,23 +1,23 @@
 -- What is laid at the front of a buffer, as the functions that lay a plain form hand it on.
+use Rattle.std.proofs.Common.{Result, Ok}
 use mathlib.Core.Path.{◌≡◌, refl, sym, ap, subst, ◌∙◌}
 use mathlib.Core.List.{List, [], ◌∷◌, ◌++◌}
 use Prim.Native.Nat.{ℕ, ◌≤◌}
 use native.Mathlib.Omega.{arith}
 use lib.ListN.{length, get_or, set, take, drop}
 use lib.Seq.{length-take-le}
-use Rattle.wire.specs.declared.laying.Laid.{Laid}
-use Rattle.wire.specs.declared.laying.Laid.TheVariants.{Wrote}
+use Rattle.wire.specs.declared.laying.NotLaid.{NotLaid}
 use Rattle.wire.specs.Laying.{laid, laid_answer}
 use Rattle.wire.specs.Number.{Bytes, number, number_bytes}
 use Rattle.wire.proofs.LayingLaws.{laid-yes}
 use Rattle.wire.proofs.NumberLaws.{bytes_take, number_bytes-number}
 
 -- equal bytes are laid alike
-pub laid_as : (x y d e : List ℕ) (r : Laid) → x ≡ y → (r ≡ laid_answer x d) × (e ≡ laid x d) → (r ≡ laid_answer y d) × (e ≡ laid y d)
+pub laid_as : (x y d e : List ℕ) (r : Result ℕ NotLaid) → x ≡ y → (r ≡ laid_answer x d) × (e ≡ laid x d) → (r ≡ laid_answer y d) × (e ≡ laid y d)
 laid_as x y d e r q h = subst (λ (bs : List ℕ). (r ≡ laid_answer bs d) × (e ≡ laid bs d)) q h
 
 -- no bytes are laid anywhere
-pub laid_none : (d : List ℕ) → (Wrote 0 ≡ laid_answer [] d) × (d ≡ laid [] d)
+pub laid_none : (d : List ℕ) → (Ok 0 ≡ laid_answer [] d) × (d ≡ laid [] d)
 laid_none d = laid-yes [] d 0 refl (omega arith) d refl
 
 -- one byte laid by itself
@@ -27,7 +27,7 @@ first-set (b ∷ s) [] h g = absurd (omega arith)
 first-set (b ∷ s) (x ∷ d) h g = refl
 
 pub laid_one : (s d : List ℕ) (width : ℕ) → width ≡ 1 → 1 ≤ length s → 1 ≤ length d
-    → (Wrote 1 ≡ laid_answer (take width s) d) × (set d 0 (get_or s 0 0) ≡ laid (take width s) d)
+    → (Ok 1 ≡ laid_answer (take width s) d) × (set d 0 (get_or s 0 0) ≡ laid (take width s) d)
 laid_one s d width e h g =
     laid_as (take 1 s) (take width s) d _ _ (ap (λ (n : ℕ). take n s) (sym e))
     (laid-yes (take 1 s) d 1 (length-take-le 1 s h) g _ (first-set s d h g))

@@ -7,7 +7,7 @@ ghost use Rattle.fields.specs.Shapes.{shape_of, shape_at};
 
 use tables::dictionary::{NO, Sort, YES, sort_of};
 use tables::table::{EXECUTION_REPORT, Row, row_of};
-use wire::text::{Allowed, Text, fixed_text, variable_text};
+use wire::text::{Allowed, fixed_text, variable_text};
 
 // Why a field is bad, as it overruns the bytes, is no text, or is neither 'Y' nor 'N' where it must be: document 01 has one
 // refusal for all.
@@ -53,14 +53,11 @@ fn check_fixed(allowed: Allowed, width: usize, s: &[u8]) -> Result<Checked, Reas
     ensures { result ≡ fixed allowed width s.now }
 {
     match fixed_text(allowed, width, s) {
-        Text::Good {
-            characters: _,
-            taken,
-        } => Ok(Checked {
-            taken,
-            plain: taken,
+        Some(text) => Ok(Checked {
+            taken: text.taken,
+            plain: text.taken,
         }),
-        Text::Bad => Err(Reason::Field),
+        None => Err(Reason::Field),
     }
 }
 
@@ -69,11 +66,11 @@ fn check_variable(allowed: Allowed, size: usize, s: &[u8]) -> Result<Checked, Re
     ensures { result ≡ variable allowed size s.now }
 {
     match variable_text(allowed, size, s) {
-        Text::Good { characters, taken } => Ok(Checked {
-            taken,
-            plain: characters + 3,
+        Some(text) => Ok(Checked {
+            taken: text.taken,
+            plain: text.characters + 3,
         }),
-        Text::Bad => Err(Reason::Field),
+        None => Err(Reason::Field),
     }
 }
 

@@ -6,12 +6,12 @@ ghost use Rattle.fields.specs.Plain.{plain_sort, plain_row};
 
 use tables::dictionary::{Sort, sort_of};
 use tables::table::{Row, row_of};
-use wire::laying::{Laid, put_bytes};
+use wire::laying::{NotLaid, put_bytes};
 use wire::number::{put_u64, read_eight};
 use wire::text::{copy_fixed, copy_variable};
 
 // The first `width` bytes of s; all where it has no more.
-fn copy_front(d: &mut [u8], width: usize, s: &[u8]) -> Laid
+fn copy_front(d: &mut [u8], width: usize, s: &[u8]) -> Result<usize, NotLaid>
     ensures { Lays (take width s.now) d.old result d.new }
 {
     if s.len() < width {
@@ -21,7 +21,7 @@ fn copy_front(d: &mut [u8], width: usize, s: &[u8]) -> Laid
 }
 
 // A field of this sort at the front of s, in plain form.
-fn copy_sort(d: &mut [u8], sort: Sort, s: &[u8]) -> Laid
+fn copy_sort(d: &mut [u8], sort: Sort, s: &[u8]) -> Result<usize, NotLaid>
     ensures { Lays (plain_sort sort s.now) d.old result d.new }
 {
     match sort {
@@ -35,30 +35,30 @@ fn copy_sort(d: &mut [u8], sort: Sort, s: &[u8]) -> Laid
 }
 
 // The field at position p of a message of this type, by its name and the dictionary; nothing where no row names one.
-fn copy_row(d: &mut [u8], messagetype: u8, p: usize, s: &[u8]) -> Laid
+fn copy_row(d: &mut [u8], messagetype: u8, p: usize, s: &[u8]) -> Result<usize, NotLaid>
     ensures { Lays (plain_row (row_of messagetype p) s.now) d.old result d.new }
 {
     match row_of(messagetype, p) {
         Row::Required(field) => copy_sort(d, sort_of(field), s),
         Row::Optional(field) => copy_sort(d, sort_of(field), s),
-        Row::UnknownPosition => Laid::Wrote(0),
-        Row::UnknownType => Laid::Wrote(0),
+        Row::UnknownPosition => Ok(0),
+        Row::UnknownType => Ok(0),
     }
 }
 
 // A number of so many bytes at the front of s, most often of one; all of s where it has no more.
-pub fn copy_number(d: &mut [u8], width: usize, s: &[u8]) -> Laid
+pub fn copy_number(d: &mut [u8], width: usize, s: &[u8]) -> Result<usize, NotLaid>
     ensures { Lays (take width s.now) d.old result d.new }
 {
     if width == 1 && 1 <= s.len() && 1 <= d.len() {
         d[0] = s[0];
-        return Laid::Wrote(1);
+        return Ok(1);
     }
     copy_front(d, width, s)
 }
 
 // A Decimal at the front of s; all of s where it has no more.
-pub fn copy_decimal(d: &mut [u8], s: &[u8]) -> Laid
+pub fn copy_decimal(d: &mut [u8], s: &[u8]) -> Result<usize, NotLaid>
     ensures { Lays (take 8 s.now) d.old result d.new }
 {
     if s.len() < 8 {
@@ -68,7 +68,7 @@ pub fn copy_decimal(d: &mut [u8], s: &[u8]) -> Laid
 }
 
 // The field at position p of a message of this type, by its name and the dictionary, in a frame of its own.
-pub fn copy_other(d: &mut [u8], messagetype: u8, p: usize, s: &[u8]) -> Laid
+pub fn copy_other(d: &mut [u8], messagetype: u8, p: usize, s: &[u8]) -> Result<usize, NotLaid>
     ensures { Lays (plain_row (row_of messagetype p) s.now) d.old result d.new }
 {
     copy_row(d, messagetype, p, s)

@@ -33,7 +33,7 @@ fn characters_word(sort: Sort) -> &'static str {
 fn print_name(rt: &impl Print, field: Field) -> io::Result<()> {
     let mut name = [0u8; 64];
     let laid = put_name(&mut name, field);
-    rt.write_all(name.get(..laid.besides()).unwrap_or(&name))
+    rt.write_all(name.get(..laid.unwrap_or(0)).unwrap_or(&name))
 }
 
 // A line, where the row has one: `table` and `number` stand at its front.

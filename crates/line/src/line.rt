@@ -33,14 +33,15 @@ pub enum LineCode {
     BadInterval,
 }
 
-// A line; or why there is none, beside a line that no message is for.
+// A line; or why there is none, beside a line that no message is for, which C is shown then.
 #[derive(Clone, Copy)]
 pub struct LineMade {
     pub code: LineCode,
     pub line: Line,
 }
 
-// Connect's answer, as the session gives it.
+// Connect's answer, as the session gives it. This, a step's answer and business taken are no generic structs shared with the
+// session's: no function works on both, and each says by its member's name whether it holds a session or a line.
 #[derive(Clone, Copy)]
 pub struct LineConnected {
     pub line: Line,
@@ -87,6 +88,7 @@ impl LineCode {
     }
 }
 
+#[tactic(auto, unfolding(crate::specs::Line::is_interval))]
 fn is_interval(interval: u32) -> bool
     ensures { result ≡ is_interval interval }
 {
@@ -149,6 +151,7 @@ pub(crate) fn is_live(state: State) -> bool
 }
 
 // Whether a wait goes on: the session was Live and stays so, and nothing ended the wait.
+#[tactic(auto, unfolding(crate::specs::Line::goes_on))]
 fn goes_on(before: bool, after: bool, ended: bool) -> bool
     ensures { result ≡ goes_on before after ended }
 {
@@ -156,6 +159,7 @@ fn goes_on(before: bool, after: bool, ended: bool) -> bool
 }
 
 // Since when a wait lasts: it goes on, or starts at n where the session is Live, and elsewhere there is none.
+#[tactic(auto, unfolding(crate::specs::Line::wait_since))]
 fn wait_since(goes: bool, live: bool, n: u64, since: u64) -> u64
     ensures { result ≡ wait_since goes live n since }
 {
@@ -180,7 +184,8 @@ fn is_sending(done: Done) -> bool
     (code_number(code) == 0) & (done.sends != 0)
 }
 
-// Whether these can be a line's interval, its clock and its waits.
+// Whether these can be a line's interval, its clock and its waits. They come singly, since there is no line before this holds.
+#[tactic(auto, unfolding(crate::specs::Line::is_held_line))]
 fn is_held_line(live: bool, interval: u32, tested: u32, now: u64, sent: u64, heard: u64) -> bool
     ensures { result ≡ is_held_line live interval tested now sent heard }
 {
@@ -232,6 +237,7 @@ impl Line {
     }
 
     // A fresh day with an interval of 1 to 60 seconds: 6, then 24.
+    #[tactic(auto, unfolding(crate::specs::Line::fresh_line))]
     pub fn fresh(comp: &[u8], interval: u32) -> LineMade
         ensures { result ≡ fresh_line comp.now interval }
     {
@@ -239,6 +245,7 @@ impl Line {
     }
 
     // A day that goes on from saved E and O: 23, 6, then 24.
+    #[tactic(auto, unfolding(crate::specs::Line::saved_line))]
     pub fn saved(comp: &[u8], e: u32, o: u32, interval: u32) -> LineMade
         ensures { result ≡ saved_line comp.now e o interval }
     {
@@ -269,6 +276,7 @@ impl Line {
     }
 
     // The line at time t with another session. Every call but a tick that does nothing makes its line here.
+    #[tactic(auto, unfolding(crate::specs::Line::moved_line))]
     pub(crate) fn moved(self, t: u64, session: Session, heard: bool, sent: bool) -> Line
         ensures { result ≡ moved_line self t session heard sent }
     {
@@ -288,6 +296,7 @@ impl Line {
     }
 
     // Connect at time t, as the session does it.
+    #[tactic(auto, unfolding(crate::specs::Line::connect_line))]
     pub fn connect(self, t: u64, password: &[u8]) -> LineConnected
         ensures { result ≡ connect_line self t password.now }
     {
@@ -301,6 +310,7 @@ impl Line {
     }
 
     // The line is gone at time t.
+    #[tactic(auto, unfolding(crate::specs::Line::drop_line))]
     pub fn drop(self, t: u64) -> Line
         ensures { result ≡ drop_line self t }
     {
@@ -320,6 +330,7 @@ impl Line {
     }
 
     // One step at time t on the message at the front of s.
+    #[tactic(auto, unfolding(crate::specs::Line::step_line))]
     pub fn step(self, t: u64, s: &[u8]) -> LineStepped
         ensures { result ≡ step_line self t s.now }
     {
@@ -351,6 +362,7 @@ impl Line {
     }
 
     // The messages of s at time t, back to back, each stepped on in turn.
+    #[tactic(auto, unfolding(crate::specs::Line::steps_line))]
     pub fn steps(self, t: u64, s: &[u8], rows: &mut [u32], sends: &mut [u32]) -> LineDone
         ensures { LaysLine self t s.now rows.old sends.old result rows.new sends.new }
     {

@@ -49,7 +49,8 @@ pub struct Ticked {
     pub act: Option<Act>,
 }
 
-// Whether a wait that began at `since` is over at n. The sum is never made, so that nothing overflows.
+// Whether a wait that began at `since` is over at n. The sum is never made, so that nothing overflows; `saturating_sub` would not
+// do, since a wait of 0 that begins later is not over.
 fn reached(since: u64, wait: u64, n: u64) -> bool
     ensures { result ≡ reached since wait n }
 {
@@ -60,6 +61,7 @@ fn reached(since: u64, wait: u64, n: u64) -> bool
 }
 
 // The three in their order.
+#[tactic(auto, unfolding(crate::specs::Tick::due_by))]
 fn due_by(down: bool, test: bool, beat: bool) -> Option<Due>
     ensures { result ≡ due_by down test beat }
 {
@@ -76,12 +78,14 @@ fn due_by(down: bool, test: bool, beat: bool) -> Option<Due>
 }
 
 // The ID of a Test Request: its own number modulo 65,536.
+#[tactic(auto, unfolding(crate::specs::Tick::id_of))]
 pub fn id_of(n: u32) -> u16
     ensures { result ≡ id_of n }
 {
     (n % IDS) as u16
 }
 
+#[tactic(auto, unfolding(crate::specs::Tick::own_act))]
 fn own_act(own: Own, n: u32) -> Act
     ensures { result ≡ own_act own n }
 {
@@ -106,6 +110,7 @@ fn earlier(one: Option<u64>, other: Option<u64>) -> Option<u64>
 
 impl Line {
     // An interval in milliseconds.
+    #[tactic(auto, unfolding(crate::specs::Tick::wait))]
     fn wait(self) -> u64
         ensures value { result ≡ wait self }
         ensures upper_bound { result ≤ last * second }
@@ -114,6 +119,7 @@ impl Line {
     }
 
     // What is due at the time n where the line is Live.
+    #[tactic(auto, unfolding(crate::specs::Tick::due_live))]
     fn due_live(self, n: u64) -> Option<Due>
         ensures { result ≡ due_live self n }
     {
@@ -124,6 +130,7 @@ impl Line {
         due_by(down, test & !self.tested, beat)
     }
 
+    #[tactic(auto, unfolding(crate::specs::Tick::due_at))]
     fn due_at(self, n: u64) -> Option<Due>
         ensures { result ≡ due_at self n }
     {
@@ -134,6 +141,7 @@ impl Line {
     }
 
     // Nothing but the latest time changes.
+    #[tactic(auto, unfolding(crate::specs::Tick::timed))]
     fn timed(self, t: u64) -> Line
         ensures { result ≡ timed self t }
     {
@@ -144,6 +152,7 @@ impl Line {
     }
 
     // This silence has had its Test Request, where this was one.
+    #[tactic(auto, unfolding(crate::specs::Tick::is_test, crate::specs::Tick::tested_line))]
     fn with_test(self, own: Own) -> Line
         ensures { result ≡ tested_line own self }
     {
@@ -179,6 +188,7 @@ impl Line {
     }
 
     // Tick: at most one of the three, by what is due at the time t, or at the latest time given where that is later.
+    #[tactic(auto, unfolding(crate::specs::Tick::tick, crate::specs::Tick::tick_by))]
     pub fn tick(self, t: u64) -> Ticked
         ensures { result ≡ tick self t }
     {

@@ -1,6 +1,6 @@
 -- Laws of the list of fields: what its quick shapes say, how long it is, and that it says what the questions answer.
 use Rattle.fields.specs.Walk.{all_good}
-use Rattle.std.specs.Prelude.{Result, Ok, Err}
+use Rattle.std.specs.Prelude.{Option, Some, None, Result, Ok, Err}
 use mathlib.Core.Path.{◌≡◌, refl, sym, ap, ◌∙◌}
 use mathlib.Core.Bool.{Bool, true, false, cond}
 use mathlib.Core.List.{List, [], ◌∷◌, ◌++◌}
@@ -23,7 +23,6 @@ use Rattle.tables.specs.Dictionary.{sort_of}
 use Rattle.tables.specs.Tables.{row_of}
 use Rattle.wire.specs.declared.text.Allowed.{Allowed}
 use Rattle.wire.specs.declared.text.Text.{Text}
-use Rattle.wire.specs.declared.text.Text.TheVariants as text
 use Rattle.wire.specs.Decimal.{unsigned, decimal}
 use Rattle.wire.specs.Laying.{laid}
 use Rattle.wire.specs.Map.{present}
@@ -95,11 +94,12 @@ module _ (w : ℕ) (s : List ℕ) where
   unfolding text_value
   text-counted allowed h = go (fixed_text allowed w s) refl
     where
-      go : (t : Text) → fixed_text allowed w s ≡ t → Counted allowed
-      go (text.Good n k) e =
-          let g = fixed-good allowed w s n k e in
+      go : (t : Option Text) → fixed_text allowed w s ≡ t → Counted allowed
+      go (Some t) e =
+          let n = t.characters in
+          let g = fixed-good allowed w s n t.taken e in
           record { room = g.whole; is = ap text_value e ∙ ap (λ (x : ℕ). Ok (value.Text x)) (sym (characters-null allowed (take w s) n g.ends)) }
-      go text.Bad e = absurd (h (ap text_value e))
+      go None e = absurd (h (ap text_value e))
 
 pub decimal-room : (s : List ℕ) → (decimal_value s ≡ Err no.Bad → ⊥) → 8 ≤ length s
 unfolding decimal_value
@@ -123,10 +123,10 @@ decimal-own : (b : Bool) (y z : ℤ) → cond b (Ok (value.Decimal y)) (Err no.B
 decimal-own true y z e = cc
 decimal-own false y z e = let y : ◌≡◌ {A = ℕ} 0 1 = cc in absurd (omega arith)
 
-text-no-decimal : (t : Text) (z : ℤ) {A : Type 0} → text_value t ≡ Ok (value.Decimal z) → A
+text-no-decimal : (t : Option Text) (z : ℤ) {A : Type 0} → text_value t ≡ Ok (value.Decimal z) → A
 unfolding text_value
-text-no-decimal (text.Good n k) z e = let y : ◌≡◌ {A = ℕ} 0 1 = cc in absurd (omega arith)
-text-no-decimal text.Bad z e = let y : ◌≡◌ {A = ℕ} 0 1 = cc in absurd (omega arith)
+text-no-decimal (Some t) z e = let y : ◌≡◌ {A = ℕ} 0 1 = cc in absurd (omega arith)
+text-no-decimal None z e = let y : ◌≡◌ {A = ℕ} 0 1 = cc in absurd (omega arith)
 
 sort-decimal : (k : Sort) (s : List ℕ) (z : ℤ) → sort_value k s ≡ Ok (value.Decimal z) → z ≡ decimal (take 8 s)
 unfolding sort_value number_value decimal_value

@@ -8,7 +8,7 @@ ghost use Rattle.names.specs.Names.{name_of};
 
 use spelt::line_length;
 use tables::dictionary::{Field, row_number};
-use wire::laying::{Laid, put_bytes};
+use wire::laying::{NotLaid, put_bytes};
 
 // Line n of s, counted from 0, without its line end; empty where there is none.
 fn line<'a>(s: &'a [u8], n: usize) -> &'a [u8]
@@ -31,7 +31,7 @@ fn line<'a>(s: &'a [u8], n: usize) -> &'a [u8]
 
 // A field's name at the front of a lent buffer. The names stand a line each from line 1 on, in the order of 004 section 8.2;
 // the dash of Time In Force is U+2013, three bytes in UTF-8.
-pub fn put_name(d: &mut [u8], field: Field) -> Laid
+pub fn put_name(d: &mut [u8], field: Field) -> Result<usize, NotLaid>
     ensures { Lays (name_of field) d.old result d.new }
 {
     let names = b"

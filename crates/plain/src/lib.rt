@@ -137,8 +137,9 @@ pub fn arrive(list: &mut [[u32; 4]], count: usize, line: Line) -> Option<(usize,
     }
     list[count] = line.numbers();
     let mut told = tells(Day::Waiting(1, 2), Send::Nothing, Row::Nothing); // A fresh day that has connected.
-    for i in 0..=count {
-        let [kind, n, dup, new] = list[i];
+    let arrivals = &list[..count + 1];
+    for a in arrivals {
+        let [kind, n, dup, new] = *a;
         told = ruled(told.day, line_in(kind, n, dup, new));
     }
     Some((count + 1, told))

@@ -1,4 +1,5 @@
 -- Lines taken one by one: where the first line ends, what one line does to the sheet, and that what is taken and laid so far, before the sheet
+use Rattle.std.proofs.Common.{Ok, Err}
 -- of the bytes left, is the sheet of all.
 use mathlib.Core.Path.{◌≡◌, refl, sym, ap, ap₂, ◌∙◌, subst}
 use Prim.Native.Nat.{ℕ, zero, suc, ◌+◌, ◌-◌, ◌<◌, ◌≤◌}
@@ -11,8 +12,9 @@ use lib.ListN.{length, take, drop, length-append, length-drop}
 use lib.Seq.{drop-drop, drop_at, length-take-le}
 use borrow.Author.Tests.{lt-ltb, le-ltb, le-leb, lt-leb, leb-true, leb-false}
 use borrow.Rule.Slice.PartMut.{put_mid, put_same}
-use Rattle.wire.specs.declared.laying.Laid.TheVariants as Laid
-use Rattle.wire.specs.Laying.{laid, laid_answer, refusal, besides}
+use Rattle.wire.specs.declared.laying.NotLaid.{NotLaid}
+use Rattle.wire.specs.declared.laying.NotLaid.TheVariants as not_laid
+use Rattle.wire.specs.Laying.{laid, laid_answer}
 use Rattle.session.specs.declared.state.Session.{Session}
 use Rattle.session.specs.Rules.{ruled}
 use Rattle.sheet.specs.declared.line.Line.{Line}
@@ -122,26 +124,19 @@ ahead_more a b x y r =
 
 -- what a writer's answer tells of the room
 module _ (bs x : List ℕ) where
-  pub answer-fits : refusal (laid_answer bs x) ≡ 0 → length bs ≤ length x
-  unfolding laid_answer refusal
-  answer-fits e = go (leb (length bs) (length x)) refl e where
-    go : (b : Bool) → leb (length bs) (length x) ≡ b → refusal (cond b (Laid.Wrote (length bs)) (Laid.NoRoom (length bs))) ≡ 0 → length bs ≤ length x
-    go true f e = leb-true (length bs) (length x) f
-    go false f e = absurd (omega arith)
+  pub answer-fits : (n : ℕ) → laid_answer bs x ≡ Ok n → (length bs ≤ length x) × (n ≡ length bs)
+  unfolding laid_answer
+  answer-fits n e = go (leb (length bs) (length x)) refl e where
+    go : (b : Bool) → leb (length bs) (length x) ≡ b → cond b (Ok (length bs)) (Err (not_laid.NoRoom (length bs))) ≡ Ok n → (length bs ≤ length x) × (n ≡ length bs)
+    go true f e = (leb-true (length bs) (length x) f, cc)
+    go false f e = let z : ◌≡◌ {A = ℕ} 0 1 = cc in absurd (omega arith)
 
-  pub answer-full : (refusal (laid_answer bs x) ≡ 0 → ⊥) → length x < length bs
-  unfolding laid_answer refusal
-  answer-full n = go (leb (length bs) (length x)) refl n where
-    go : (b : Bool) → leb (length bs) (length x) ≡ b → (refusal (cond b (Laid.Wrote (length bs)) (Laid.NoRoom (length bs))) ≡ 0 → ⊥) → length x < length bs
-    go true f n = absurd (n refl)
-    go false f n = leb-false (length bs) (length x) f
-
-  pub answer-besides : besides (laid_answer bs x) ≡ length bs
-  unfolding laid_answer besides
-  answer-besides = go (leb (length bs) (length x)) where
-    go : (b : Bool) → besides (cond b (Laid.Wrote (length bs)) (Laid.NoRoom (length bs))) ≡ length bs
-    go true = refl
-    go false = refl
+  pub answer-full : (e : NotLaid) → laid_answer bs x ≡ Err e → length x < length bs
+  unfolding laid_answer
+  answer-full n e = go (leb (length bs) (length x)) refl e where
+    go : (b : Bool) → leb (length bs) (length x) ≡ b → cond b (Ok (length bs)) (Err (not_laid.NoRoom (length bs))) ≡ Err n → length x < length bs
+    go true f e = let z : ◌≡◌ {A = ℕ} 0 1 = cc in absurd (omega arith)
+    go false f e = leb-false (length bs) (length x) f
 
 -- the text laid at the front of d₀ makes d; more bytes bs go into its part from w on, and y is that part afterwards
 module _ (d₀ d text bs y : List ℕ) (w : ℕ) (q : w ≡ length text) (f : length text ≤ length d₀) (e : d ≡ text ++ drop (length text) d₀)

@@ -7,7 +7,7 @@ ghost use Rattle.sheet.specs.Print.{row_name, send_name, line_text, printed, cou
 
 use session::state::{Row, Send, Stepped, first_of, last_of};
 use spelt::put_number;
-use wire::laying::{Laid, put_bytes};
+use wire::laying::{NotLaid, put_bytes};
 
 // The bytes w behind the first `at` of d; where the next begin.
 fn put(d: &mut [u8], at: usize, w: &[u8]) -> usize
@@ -27,7 +27,7 @@ fn put_field(d: &mut [u8], at: usize, label: &[u8], n: u64) -> usize
 {
     let p = put(d, at, label);
     let laid = put_number(&mut d[p..], n);
-    p + laid.besides()
+    p + laid.unwrap_or(0)
 }
 
 // The row's name at the front of d.
@@ -82,7 +82,7 @@ fn counted(d: &mut [u8], label: &[u8], k: u64) -> usize
 }
 
 // The line of a row, of E and of what is sent at the front of a lent buffer.
-pub fn put_line(d: &mut [u8], row: Row, next: u32, send: Send) -> Laid
+pub fn put_line(d: &mut [u8], row: Row, next: u32, send: Send) -> Result<usize, NotLaid>
     ensures { (result ≡ laid_answer (line_text row next send) d.old) × (d.new ≡ laid (line_text row next send) d.old) }
 {
     let mut text = [0u8; 128];
@@ -91,7 +91,7 @@ pub fn put_line(d: &mut [u8], row: Row, next: u32, send: Send) -> Laid
 }
 
 // The line of a step.
-pub(crate) fn put_printed(d: &mut [u8], t: Stepped) -> Laid
+pub(crate) fn put_printed(d: &mut [u8], t: Stepped) -> Result<usize, NotLaid>
     ensures { (result ≡ laid_answer (printed t) d.old) × (d.new ≡ laid (printed t) d.old) }
 {
     let session = t.session;
@@ -102,7 +102,7 @@ pub(crate) fn put_printed(d: &mut [u8], t: Stepped) -> Laid
 }
 
 // A label, a line's number and the line end at the front of a lent buffer.
-fn put_counted(d: &mut [u8], label: &[u8], k: u64) -> Laid
+fn put_counted(d: &mut [u8], label: &[u8], k: u64) -> Result<usize, NotLaid>
     requires { length label.now ≤ 64 }
     ensures value { result ≡ laid_answer (counted_text label.now k) d.old }
     ensures d_after { d.new ≡ laid (counted_text label.now k) d.old }
@@ -113,14 +113,14 @@ fn put_counted(d: &mut [u8], label: &[u8], k: u64) -> Laid
 }
 
 // The line of a bad line, by its number.
-pub fn put_bad(d: &mut [u8], k: u64) -> Laid
+pub fn put_bad(d: &mut [u8], k: u64) -> Result<usize, NotLaid>
     ensures { (result ≡ laid_answer (printed_bad k) d.old) × (d.new ≡ laid (printed_bad k) d.old) }
 {
     put_counted(d, b"bad=", k)
 }
 
 // The line of one that a full list has no room for, by its number (document 02, item 11).
-pub fn put_full(d: &mut [u8], k: u64) -> Laid
+pub fn put_full(d: &mut [u8], k: u64) -> Result<usize, NotLaid>
     ensures { (result ≡ laid_answer (printed_full k) d.old) × (d.new ≡ laid (printed_full k) d.old) }
 {
     put_counted(d, b"refused=41 line=", k)

@@ -74,57 +74,46 @@ pub fn take_lines(session: Session, count: u64, s: &[u8], d: &mut [u8]) -> Taken
     ensures value { result ≡ (sheet_of (length d.old) session count s.now).taken }
     ensures d_after { d.new ≡ at_front (sheet_of (length d.old) session count s.now).text d.old }
 {
-    let mut day = session;
-    let mut k = count;
-    let mut used = 0;
-    let mut written = 0;
+    let mut so_far = Taken {
+        session,
+        count,
+        used: 0,
+        written: 0,
+        end: End::NoLine,
+    };
     loop {
-        let rest = &s[used..];
+        let rest = &s[so_far.used..];
         let n = line_length(rest);
         if n == rest.len() {
-            return Taken {
-                session: day,
-                count: k,
-                used,
-                written,
-                end: End::NoLine,
-            };
+            return so_far;
         }
+        let k = so_far.count;
         match read_line(&rest[..n]) {
             Some(line) => {
-                let stepped = day.ruled(message_of(line));
-                let laid = put_printed(&mut d[written..], stepped);
-                if laid.refusal() != 0 {
+                let stepped = so_far.session.ruled(message_of(line));
+                let Ok(laid) = put_printed(&mut d[so_far.written..], stepped) else {
                     return Taken {
-                        session: day,
-                        count: k,
-                        used,
-                        written,
                         end: End::NoRoom,
+                        ..so_far
                     };
-                }
-                day = stepped.session;
-                k = next_count(k);
-                used += n + 1;
-                written += laid.besides();
+                };
+                so_far.session = stepped.session;
+                so_far.count = next_count(k);
+                so_far.used += n + 1;
+                so_far.written += laid;
             }
             None => {
-                let laid = put_bad(&mut d[written..], k);
-                if laid.refusal() != 0 {
+                let Ok(laid) = put_bad(&mut d[so_far.written..], k) else {
                     return Taken {
-                        session: day,
-                        count: k,
-                        used,
-                        written,
                         end: End::NoRoom,
+                        ..so_far
                     };
-                }
+                };
                 return Taken {
-                    session: day,
-                    count: k,
-                    used: used + (n + 1),
-                    written: written + laid.besides(),
+                    used: so_far.used + (n + 1),
+                    written: so_far.written + laid,
                     end: End::BadLine,
+                    ..so_far
                 };
             }
         }

@@ -1,4 +1,5 @@
 -- Bytes laid behind others.
+use Rattle.std.proofs.Common.{Result}
 use mathlib.Core.Path.{◌≡◌, ap, ap₂, ◌∙◌}
 use Prim.Native.Nat.{ℕ, ◌+◌, ◌-◌, ◌<◌, ◌≤◌}
 use native.Mathlib.Numerals.{add-one}
@@ -8,8 +9,9 @@ use lib.ListN.{length, set, take, drop, length-append, length-drop}
 use lib.Seq.{length-take-le, take_at, take-suc-set}
 use borrow.Author.Tests.{le-leb}
 use borrow.Rule.Slice.PartMut.{put_mid}
-use Rattle.wire.specs.declared.laying.Laid.{Laid}
-use Rattle.wire.specs.Laying.{laid, laid_answer, besides}
+use Rattle.wire.specs.declared.laying.NotLaid.{NotLaid}
+use Rattle.std.specs.Result.{result_unwrap_or}
+use Rattle.wire.specs.Laying.{laid, laid_answer}
 use Rattle.spelt.specs.Spelt.{number_text}
 use Rattle.spelt.proofs.DigitLaws.{number-most}
 
@@ -24,22 +26,22 @@ module _ (d bs : List ℕ) (at : ℕ) (h : at + length bs ≤ length d) where
       rw (length-take-le (length d - at) (drop at d) l) (omega arith)
 
   -- the answer, the bytes it reports and the part afterwards
-  behind : (a : Laid) (m : ℕ) (y : List ℕ) → a ≡ laid_answer bs part → m ≡ besides a → y ≡ laid bs part
+  behind : (a : Result ℕ NotLaid) (m : ℕ) (y : List ℕ) → a ≡ laid_answer bs part → m ≡ result_unwrap_or a 0 → y ≡ laid bs part
       → (m ≡ length bs) × (take (at + m) (put_mid at (length d - at) d y) ≡ take at d ++ bs)
-  unfolding laid laid_answer besides
+  unfolding laid laid_answer
   behind a m y p q e =
       let r = drop (length d - at) (drop at d) in
       let x = drop (length bs) part in
       let t = le-leb (length bs) (length part) room in
-      let n : m ≡ length bs = q ∙ ap besides p ∙ rw t in
+      let n : m ≡ length bs = q ∙ ap (λ (x : Result ℕ NotLaid). result_unwrap_or x 0) p ∙ rw t in
       let w : y ≡ bs ++ x = e ∙ rw t in
       let l : at ≤ length d = omega arith in
       let s : take at d ++ (y ++ r) ≡ (take at d ++ bs) ++ (x ++ r) = rw w (simp append_assoc) in
       (n, ap₂ (λ (k : ℕ) (z : List ℕ). take (at + k) z) n s ∙ take_at (take at d ++ bs) (x ++ r) (at + length bs) (simp (length-append, length-take-le at d l)))
 
 -- the same of a number, for which twenty bytes are room
-pub number_behind : (d : List ℕ) (at n : ℕ) → at + 20 ≤ length d → (a : Laid) (m : ℕ) (y : List ℕ)
-    → a ≡ laid_answer (number_text n) (take (length d - at) (drop at d)) → m ≡ besides a → y ≡ laid (number_text n) (take (length d - at) (drop at d))
+pub number_behind : (d : List ℕ) (at n : ℕ) → at + 20 ≤ length d → (a : Result ℕ NotLaid) (m : ℕ) (y : List ℕ)
+    → a ≡ laid_answer (number_text n) (take (length d - at) (drop at d)) → m ≡ result_unwrap_or a 0 → y ≡ laid (number_text n) (take (length d - at) (drop at d))
     → (m ≤ 20) × (take (at + m) (put_mid at (length d - at) d y) ≡ take at d ++ number_text n)
 number_behind d at n h a m y p q e =
     let l = number-most n in

@@ -1,4 +1,5 @@
 -- A character as it is shown: the four ways of the code, and that none of them steers a terminal.
+use Rattle.std.proofs.Common.{Result}
 use mathlib.Core.Path.{◌≡◌, refl, sym, subst}
 use mathlib.Core.Bool.{Bool, true, false, cond, ◌&&◌}
 use mathlib.Core.List.{List, [], ◌∷◌, ◌++◌}
@@ -6,14 +7,14 @@ use Prim.Native.Nat.{ℕ, ◌+◌, ◌/◌, ◌%◌, ◌≤◌, ◌<◌}
 use native.Mathlib.Omega.{arith}
 use borrow.Author.Tests.{lt-ltb, le-ltb, ne_eqb, ltb-true, ltb-false, le-leb}
 use lib.Dec.{eqb, leb, ltb}
-use Rattle.wire.specs.declared.laying.Laid.{Laid}
+use Rattle.wire.specs.declared.laying.NotLaid.{NotLaid}
 use Rattle.wire.specs.declared.text.Allowed.TheVariants.{Ascii}
 use Rattle.wire.specs.Laying.{laid, laid_answer}
 use Rattle.wire.specs.Text.{is_character}
 use Rattle.spelt.specs.Shown.{hex_digit, two_bytes, escaped, shown, Safe, ascii, sign, letter}
 
 -- what is laid for a character is what it is shown as
-pub shown-laid : (x : List ℕ) (b : ℕ) (d : List ℕ) (r : Laid) (y : List ℕ) → shown b ≡ x → (r ≡ laid_answer x d) × (y ≡ laid x d)
+pub shown-laid : (x : List ℕ) (b : ℕ) (d : List ℕ) (r : Result ℕ NotLaid) (y : List ℕ) → shown b ≡ x → (r ≡ laid_answer x d) × (y ≡ laid x d)
     → (r ≡ laid_answer (shown b) d) × (y ≡ laid (shown b) d)
 shown-laid x b d r y e p = subst (λ (t : List ℕ). (r ≡ laid_answer t d) × (y ≡ laid t d)) (sym e) p
 

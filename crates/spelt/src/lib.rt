@@ -8,7 +8,7 @@ ghost use Rattle.spelt.specs.Lines.{line_length};
 ghost use Rattle.spelt.specs.Shown.{hex_digit, shown};
 ghost use Rattle.spelt.specs.Spelt.{number_text, fraction, hundred_millionths, amount_text};
 
-use wire::laying::{Laid, put_bytes};
+use wire::laying::{NotLaid, put_bytes};
 use wire::text::{Allowed, is_character};
 
 const BACKSLASH: u8 = b'\\';
@@ -47,7 +47,7 @@ fn spell(n: u64) -> Digits
 }
 
 // A number in the fewest digits.
-pub fn put_number(d: &mut [u8], n: u64) -> Laid
+pub fn put_number(d: &mut [u8], n: u64) -> Result<usize, NotLaid>
     ensures { (result ≡ laid_answer (number_text n) d.old) × (d.new ≡ laid (number_text n) d.old) }
 {
     let s = spell(n);
@@ -62,7 +62,7 @@ fn put_digits(d: &mut [u8], at: usize, n: u64) -> usize
     ensures { (result ≤ at + 20) × (take result d.new ≡ take at d.old ++ number_text n) }
 {
     let laid = put_number(&mut d[at..], n);
-    at + laid.besides()
+    at + laid.unwrap_or(0)
 }
 
 // The eight digits of n, down to the last that is not 0, behind the first `at` bytes of d; where they end.
@@ -121,7 +121,7 @@ fn spell_amount(d: &mut [u8], z: i64) -> usize
 }
 
 // A Decimal, a count of hundred-millionths, as the shortest exact decimal text.
-pub fn put_amount(d: &mut [u8], z: i64) -> Laid
+pub fn put_amount(d: &mut [u8], z: i64) -> Result<usize, NotLaid>
     ensures { (result ≡ laid_answer (amount_text z) d.old) × (d.new ≡ laid (amount_text z) d.old) }
 {
     let mut text = [0u8; 30];
@@ -151,7 +151,7 @@ fn hex_digit(n: u8) -> u8
 }
 
 // A text's character as a terminal shows it safely.
-pub fn put_shown(d: &mut [u8], b: u8) -> Laid
+pub fn put_shown(d: &mut [u8], b: u8) -> Result<usize, NotLaid>
     ensures { (result ≡ laid_answer (shown b) d.old) × (d.new ≡ laid (shown b) d.old) }
 {
     if b == BACKSLASH {

@@ -8,6 +8,7 @@ use crate::table::{
 };
 
 // The bytes of the longest message of this type, frame and all; 0 where the type has no table.
+#[tactic(auto, unfolding(crate::specs::Longest::longest_lengths, crate::specs::Longest::longest_length))]
 pub fn longest_of(messagetype: u8) -> usize
     ensures { result ≡ longest_length messagetype }
 {

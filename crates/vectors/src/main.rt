@@ -6,7 +6,6 @@
 use spelt::put_shown;
 use std::io;
 use wire::decimal::{put_decimal, read_decimal};
-use wire::laying::Laid;
 use wire::text::{Allowed, characters_in};
 
 // What ends a line.
@@ -47,7 +46,7 @@ fn sums_of_messages(rt: &impl Print) -> io::Result<()> {
 fn decimal(rt: &impl Print, name: &str, bytes: &[u8; 8], value: i64) -> io::Result<()> {
     let mut d = [0u8; 8];
     let laid = put_decimal(&mut d, value);
-    let right = matches!(laid, Laid::Wrote(8)) && d == *bytes && read_decimal(bytes) == value;
+    let right = matches!(laid, Ok(8)) && d == *bytes && read_decimal(bytes) == value;
     println!(rt; "Decimal {name}: {}", verdict(right))
 }
 
@@ -109,8 +108,8 @@ fn shown(rt: &impl Print, name: &str, b: u8, want: &[u8]) -> io::Result<()> {
     let mut d = [0u8; 4];
     let laid = put_shown(&mut d, b);
     let right = match laid {
-        Laid::Wrote(n) => d.get(..n) == Some(want),
-        Laid::BadText | Laid::NoRoom(_) => false,
+        Ok(n) => d.get(..n) == Some(want),
+        Err(_) => false,
     };
     println!(rt; "{name}: {}", verdict(right))
 }

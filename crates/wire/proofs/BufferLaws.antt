@@ -1,7 +1,7 @@
 -- Bytes laid at the front of a lent buffer, and more bytes laid behind them by a writer that was lent the rest of it.
-use Rattle.std.proofs.Common.{◌≡◌, ℕ, ◌+◌, ◌-◌, ◌≤◌, Bool, true, false, cond, leb, List, [], ◌++◌, length, take, drop, sym, refl, ap, ◌∙◌, ap₂, append_assoc, append-nil, arith, length-append, length-drop, take-append-drop, drop_of_length-le, length-take-le, drop-drop, take_at, drop_at, le-leb}
+use Rattle.std.proofs.Common.{◌≡◌, ℕ, ◌+◌, ◌-◌, ◌≤◌, Bool, true, false, cond, leb, List, [], ◌++◌, length, take, drop, sym, refl, ap, ◌∙◌, ap₂, append_assoc, append-nil, arith, length-append, length-drop, take-append-drop, drop_of_length-le, length-take-le, drop-drop, take_at, drop_at, le-leb, Ok, Err}
 use Rattle.wire.specs.declared.text.Allowed.{Allowed}
-use Rattle.wire.specs.declared.laying.Laid.TheVariants.{Wrote, NoRoom}
+use Rattle.wire.specs.declared.laying.NotLaid.TheVariants.{NoRoom}
 use Rattle.wire.specs.Laying.{at_front, besides, laid, laid_answer}
 use Rattle.wire.specs.Number.{number_bytes}
 use Rattle.wire.specs.Text.{takes, fixed_bytes, fixed_laid}
@@ -27,9 +27,14 @@ pub besides-laid : (e d : List ℕ) → besides (laid_answer e d) ≡ length e
 unfolding besides laid_answer
 besides-laid e d = go (leb (length e) (length d))
   where
-    go : (b : Bool) → besides (cond b (Wrote (length e)) (NoRoom (length e))) ≡ length e
+    go : (b : Bool) → besides (cond b (Ok (length e)) (Err (NoRoom (length e)))) ≡ length e
     go true = refl
     go false = refl
+
+-- the length written, where there is room
+pub wrote-laid : (e d : List ℕ) → length e ≤ length d → laid_answer e d ≡ Ok (length e)
+unfolding laid_answer
+wrote-laid e d h = rw (le-leb (length e) (length d) h) refl
 
 -- the whole buffer x, whose rest from a on was lent, and is y afterwards
 abbrev pub lent_from : ℕ → List ℕ → List ℕ → List ℕ

@@ -1,30 +1,27 @@
 -- Laws of texts: what the readers' and the writers' loops ask; that a written text is read back; that a reader's answer depends on the field's own
 -- bytes alone; and that the writer takes the characters of every text that a reader calls good.
-use Rattle.std.proofs.Common.{◌≡◌, ℕ, zero, suc, ◌+◌, ◌-◌, ◌^◌, ◌<◌, ◌≤◌, Bool, true, false, cond, not, ◌&&◌, ◌||◌, eqb, ltb, leb, List, [], ◌∷◌, ◌++◌, length, get_or, take, drop, set, replicate, sym, refl, ap, ◌∙◌, subst, ap₂, append_assoc, append-nil, add-one, arith, length-append, length-drop, drop_of_length-le, length-take-le, take_all, drop-cons, take-take, drop-drop, take_at, take-add, drop_at, ltb-true, le-ltb, lt-ltb, ne_eqb, eqb-true, le-leb, leb-false, leb-true}
+use Rattle.std.proofs.Common.{◌≡◌, ℕ, zero, suc, ◌+◌, ◌-◌, ◌^◌, ◌<◌, ◌≤◌, Bool, true, false, cond, not, ◌&&◌, ◌||◌, eqb, ltb, leb, List, [], ◌∷◌, ◌++◌, length, get_or, take, drop, set, replicate, sym, refl, ap, ◌∙◌, subst, ap₂, append_assoc, append-nil, add-one, arith, length-append, length-drop, drop_of_length-le, length-take-le, take_all, drop-cons, take-take, drop-drop, take_at, take-add, drop_at, ltb-true, le-ltb, lt-ltb, ne_eqb, eqb-true, le-leb, leb-false, leb-true, Option, Some, None, Result, Err}
 use lib.Dec.{leb-suc-suc, eqb-suc-suc, eqb-zero-suc}
 use lib.ListN.{length-replicate}
 use lib.Seq.{set_at, append_snoc}
 use borrow.Author.Tests.{lt-leb, eqb-false}
-use Rattle.wire.specs.declared.laying.Laid.{Laid}
-use Rattle.wire.specs.declared.laying.Laid.TheVariants.{BadText}
+use Rattle.wire.specs.declared.laying.NotLaid.{NotLaid}
+use Rattle.wire.specs.declared.laying.NotLaid.TheVariants.{BadText}
 use Rattle.wire.specs.declared.text.Allowed.{Allowed}
 use Rattle.wire.specs.declared.text.Allowed.TheVariants.{Ascii, Accented}
-use Rattle.wire.specs.declared.text.Null.{Null}
-use Rattle.wire.specs.declared.text.Null.TheVariants.{At, Nowhere}
 use Rattle.wire.specs.declared.text.Text.{Text}
-use Rattle.wire.specs.declared.text.Text.TheVariants.{Good, Bad}
 use Rattle.wire.specs.Laying.{laid, laid_answer}
 use Rattle.wire.specs.Number.{Bytes, number, number_bytes}
-use Rattle.wire.specs.Text.{is_character, all_characters, characters, one_past, null, ended, fixed_text, variable_body, variable_text, characters_of, fixed_part, variable_part, takes, fixed_bytes, variable_bytes}
+use Rattle.wire.specs.Text.{is_character, all_characters, characters, one_past, null, ended, good, fixed_text, variable_body, variable_text, characters_of, fixed_part, variable_part, takes, fixed_bytes, variable_bytes}
 use Rattle.wire.proofs.TestLaws.{both, and-true}
 use Rattle.wire.proofs.NumberLaws.{length-number_bytes, number-number_bytes, number-take}
 
 -- k characters more before the null
-unfoldable past : ℕ → Null → Null
+unfoldable past : ℕ → Option ℕ → Option ℕ
 past zero x = x
 past (suc k) x = one_past (past k x)
 
-past-at : (k : ℕ) → past k (At 0) ≡ At k
+past-at : (k : ℕ) → past k (Some 0) ≡ Some k
 unfolding past one_past
 past-at zero = refl
 past-at (suc k) = ap one_past (past-at k)
@@ -43,32 +40,40 @@ all_cons true c l a e = eqb-suc-suc c l ∙ e
 all_cons false c l a e = eqb-zero-suc l
 
 -- the null at place n, if it stands there
-unfoldable null_behind : ℕ → List ℕ → Null
-null_behind n s = cond (ltb n (length s)) (cond (eqb (get_or s n 0) 0) (At n) Nowhere) Nowhere
+unfoldable null_behind : ℕ → List ℕ → Option ℕ
+null_behind n s = cond (ltb n (length s)) (cond (eqb (get_or s n 0) 0) (Some n) None) None
 
-past-tests : (p q : Bool) (n : ℕ) → one_past (cond p (cond q (At n) Nowhere) Nowhere) ≡ cond p (cond q (At (suc n)) Nowhere) Nowhere
+past-tests : (p q : Bool) (n : ℕ) → one_past (cond p (cond q (Some n) None) None) ≡ cond p (cond q (Some (suc n)) None) None
 unfolding one_past
 past-tests true true n = refl
 past-tests true false n = refl
 past-tests false q n = refl
 
-at_place : (p q : Bool) (m n : ℕ) → cond p (cond q (At m) Nowhere) Nowhere ≡ At n → m ≡ n
+at_place : (p q : Bool) (m n : ℕ) → cond p (cond q (Some m) None) None ≡ Some n → m ≡ n
 at_place true true m n e = cc
 at_place true false m n e = let z : ◌≡◌ {A = ℕ} 0 1 = cc in absurd (omega arith)
 at_place false q m n e = let z : ◌≡◌ {A = ℕ} 0 1 = cc in absurd (omega arith)
 
 -- a good answer passed each test
-good-if : (b : Bool) (x : Text) (n k : ℕ) → cond b x Bad ≡ Good n k → (b ≡ true) × (x ≡ Good n k)
+good-if : (b : Bool) (x : Option Text) (n k : ℕ) → cond b x None ≡ good n k → (b ≡ true) × (x ≡ good n k)
 good-if true x n k e = (refl, e)
 good-if false x n k e = let z : ◌≡◌ {A = ℕ} 0 1 = cc in absurd (omega arith)
 
-ended-good : (m : ℕ) (x : Null) (n k : ℕ) → ended m x ≡ Good n k → (k ≡ m) × (x ≡ At n)
-unfolding ended
-ended-good m (At j) n k e =
-    let p : j ≡ n = cc in
-    let q : k ≡ m = cc in
-    (q, ap At p)
-ended-good m Nowhere n k e = let z : ◌≡◌ {A = ℕ} 0 1 = cc in absurd (omega arith)
+characters-told : Option Text → ℕ
+characters-told (Some text) = text.characters
+characters-told None = 0
+
+taken-told : Option Text → ℕ
+taken-told (Some text) = text.taken
+taken-told None = 0
+
+ended-good : (m : ℕ) (x : Option ℕ) (n k : ℕ) → ended m x ≡ good n k → (k ≡ m) × (x ≡ Some n)
+unfolding ended characters-told taken-told
+ended-good m (Some j) n k e =
+    let p : j ≡ n = ap characters-told e in
+    let q : m ≡ k = ap taken-told e in
+    (sym q, ap Some p)
+ended-good m None n k e = let z : ◌≡◌ {A = ℕ} 0 1 = cc in absurd (omega arith)
 
 -- how many bytes a written text takes
 pub length-fixed_bytes : (w : ℕ) (t : List ℕ) → length t ≤ w → length (fixed_bytes w t) ≡ w
@@ -80,11 +85,11 @@ unfolding variable_bytes
 length-variable_bytes t = simp (length-append, length-number_bytes) (omega arith)
 
 -- what each way of a text writer owes, whatever it lays; b is whether it takes the text
-pub text-refused : (bs d : List ℕ) (b : Bool) → b ≡ false → (BadText ≡ cond b (laid_answer bs d) BadText) × (d ≡ cond b (laid bs d) d)
+pub text-refused : (bs d : List ℕ) (b : Bool) → b ≡ false → (Err BadText ≡ cond b (laid_answer bs d) (Err BadText)) × (d ≡ cond b (laid bs d) d)
 text-refused bs d b h = (rw h, rw h)
 
-pub text-laid : (bs d : List ℕ) (b : Bool) (a : Laid) (e : List ℕ) → b ≡ true → (a ≡ laid_answer bs d) × (e ≡ laid bs d)
-    → (a ≡ cond b (laid_answer bs d) BadText) × (e ≡ cond b (laid bs d) d)
+pub text-laid : (bs d : List ℕ) (b : Bool) (a : Result ℕ NotLaid) (e : List ℕ) → b ≡ true → (a ≡ laid_answer bs d) × (e ≡ laid bs d)
+    → (a ≡ cond b (laid_answer bs d) (Err BadText)) × (e ≡ cond b (laid bs d) d)
 text-laid bs d b a e h p = (rw h p.0, rw h p.1)
 
 -- a text laid at the front, then zeros to the width: e is the buffer after the text, z the part of it that was cleared
@@ -164,7 +169,7 @@ module _ (allowed : Allowed) where
       rw (character-not-null b p.0, p.0) (ap one_past (null-then t r p.1))
 
   -- a null after characters
-  pub null-after : (t r : List ℕ) → all_characters allowed t ≡ true → null allowed (t ++ 0 ∷ r) ≡ At (length t)
+  pub null-after : (t r : List ℕ) → all_characters allowed t ≡ true → null allowed (t ++ 0 ∷ r) ≡ Some (length t)
   unfolding null
   null-after t r h = null-then t (0 ∷ r) h ∙ past-at (length t)
 
@@ -214,7 +219,7 @@ module _ (allowed : Allowed) where
 
   -- one byte b in front, by the tests on it
   null-cons : (b : ℕ) (s : List ℕ) (p q : Bool) → eqb b 0 ≡ p → is_character allowed b ≡ q → null allowed s ≡ null_behind (characters allowed s) s
-      → cond p (At 0) (cond q (one_past (null allowed s)) Nowhere) ≡ null_behind (cond q (suc (characters allowed s)) 0) (b ∷ s)
+      → cond p (Some 0) (cond q (one_past (null allowed s)) None) ≡ null_behind (cond q (suc (characters allowed s)) 0) (b ∷ s)
   unfolding null_behind
   null-cons b s true true e f h =
       let n = character-not-null b f in
@@ -224,7 +229,7 @@ module _ (allowed : Allowed) where
   null-cons b s false true e f h =
       let n = characters allowed s in
       ap one_past h ∙ past-tests (ltb n (length s)) (eqb (get_or s n 0) 0) n
-      ∙ ap (λ (p : Bool). cond p (cond (eqb (get_or s n 0) 0) (At (suc n)) Nowhere) Nowhere) (sym (leb-suc-suc (suc n) (length s)))
+      ∙ ap (λ (p : Bool). cond p (cond (eqb (get_or s n 0) 0) (Some (suc n)) None) None) (sym (leb-suc-suc (suc n) (length s)))
   null-cons b s false false e f h = let l : 0 < suc (length s) = omega arith in rw (lt-ltb 0 (suc (length s)) l, e)
 
   -- the null stands right behind the characters, or nowhere
@@ -238,20 +243,20 @@ module _ (allowed : Allowed) where
     null-counted : null allowed s ≡ null_behind n s
     null-counted = null-behind s ∙ ap (λ (k : ℕ). null_behind k s) (sym h)
 
-    pub null-here : n < length s → get_or s n 0 ≡ 0 → null allowed s ≡ At n
+    pub null-here : n < length s → get_or s n 0 ≡ 0 → null allowed s ≡ Some n
     unfolding null_behind
     null-here l e = null-counted ∙ rw (lt-ltb n (length s) l, e)
 
-    pub null-stopped : n < length s → (get_or s n 0 ≡ 0 → ⊥) → null allowed s ≡ Nowhere
+    pub null-stopped : n < length s → (get_or s n 0 ≡ 0 → ⊥) → null allowed s ≡ None
     unfolding null_behind
     null-stopped l e = null-counted ∙ rw (lt-ltb n (length s) l, ne_eqb (get_or s n 0) 0 e)
 
-    pub null-missing : length s ≤ n → null allowed s ≡ Nowhere
+    pub null-missing : length s ≤ n → null allowed s ≡ None
     unfolding null_behind
     null-missing l = null-counted ∙ rw (le-ltb n (length s) l)
 
   -- where the null was found, as many characters stand before it
-  pub characters-null : (s : List ℕ) (n : ℕ) → null allowed s ≡ At n → characters allowed s ≡ n
+  pub characters-null : (s : List ℕ) (n : ℕ) → null allowed s ≡ Some n → characters allowed s ≡ n
   unfolding null_behind
   characters-null s n e =
       at_place (ltb (characters allowed s) (length s)) (eqb (get_or s (characters allowed s) 0) 0) (characters allowed s) n (sym (null-behind s) ∙ e)
@@ -262,17 +267,17 @@ module _ (allowed : Allowed) where
     pub characters : all_characters allowed (take n s) ≡ true
 
   -- one byte b in front, by what was found behind it (x), and by the tests on b (p that it is 0, q that it is a character)
-  found-past : (b : ℕ) (s : List ℕ) (n : ℕ) (x : Null) → ((m : ℕ) → x ≡ At m → NullAt s m) → is_character allowed b ≡ true → one_past x ≡ At n → NullAt (b ∷ s) n
+  found-past : (b : ℕ) (s : List ℕ) (n : ℕ) (x : Option ℕ) → ((m : ℕ) → x ≡ Some m → NullAt s m) → is_character allowed b ≡ true → one_past x ≡ Some n → NullAt (b ∷ s) n
   unfolding one_past all_characters
-  found-past b s n (At m) h f e =
+  found-past b s n (Some m) h f e =
       let q : suc m ≡ n = cc in
       let r = h m refl in
       let l : m < length s = r.within in
       subst (λ (j : ℕ). NullAt (b ∷ s) j) q (record { within = omega arith; characters = rw f r.characters })
-  found-past b s n Nowhere h f e = let z : ◌≡◌ {A = ℕ} 0 1 = cc in absurd (omega arith)
+  found-past b s n None h f e = let z : ◌≡◌ {A = ℕ} 0 1 = cc in absurd (omega arith)
 
-  found-cons : (b : ℕ) (s : List ℕ) (n : ℕ) → ((m : ℕ) → null allowed s ≡ At m → NullAt s m) → (p q : Bool) → is_character allowed b ≡ q
-      → cond p (At 0) (cond q (one_past (null allowed s)) Nowhere) ≡ At n → NullAt (b ∷ s) n
+  found-cons : (b : ℕ) (s : List ℕ) (n : ℕ) → ((m : ℕ) → null allowed s ≡ Some m → NullAt s m) → (p q : Bool) → is_character allowed b ≡ q
+      → cond p (Some 0) (cond q (one_past (null allowed s)) None) ≡ Some n → NullAt (b ∷ s) n
   unfolding all_characters
   found-cons b s n h true q f e =
       let z : 0 ≡ n = cc in
@@ -280,7 +285,7 @@ module _ (allowed : Allowed) where
   found-cons b s n h false true f e = found-past b s n (null allowed s) h f e
   found-cons b s n h false false f e = let z : ◌≡◌ {A = ℕ} 0 1 = cc in absurd (omega arith)
 
-  pub null-found : (s : List ℕ) (n : ℕ) → null allowed s ≡ At n → NullAt s n
+  pub null-found : (s : List ℕ) (n : ℕ) → null allowed s ≡ Some n → NullAt s n
   unfolding null
   null-found [] n e = let z : ◌≡◌ {A = ℕ} 0 1 = cc in absurd (omega arith)
   null-found (b ∷ s) n e = found-cons b s n (null-found s) (eqb b 0) (is_character allowed b) refl e
@@ -314,13 +319,13 @@ module _ (allowed : Allowed) where
       rw (le-leb w (length (x ++ r)) l, take_at x r w e)
 
   -- the reader's answer by where it found the null
-  pub fixed-read : (w : ℕ) (s : List ℕ) (x : Null) → w ≤ length s → null allowed (take w s) ≡ x → fixed_text allowed w s ≡ ended w x
+  pub fixed-read : (w : ℕ) (s : List ℕ) (x : Option ℕ) → w ≤ length s → null allowed (take w s) ≡ x → fixed_text allowed w s ≡ ended w x
   unfolding fixed_text
   fixed-read w s x l e = rw (le-leb w (length s) l, e)
 
   -- a written text is read back, whatever stands behind it
   module _ (w : ℕ) (t r : List ℕ) (h : takes allowed w t ≡ true) where
-    pub fixed-again : fixed_text allowed w (fixed_bytes w t ++ r) ≡ Good (length t) w
+    pub fixed-again : fixed_text allowed w (fixed_bytes w t ++ r) ≡ good (length t) w
     unfolding fixed_bytes ended
     fixed-again =
         let k = taken w t h in
@@ -334,7 +339,7 @@ module _ (allowed : Allowed) where
     pub fixed-part-again : fixed_part allowed w (fixed_bytes w t ++ r) ≡ t
     unfolding fixed_part characters_of fixed_bytes
     fixed-part-again =
-        ap (λ (x : Text). characters_of x (fixed_bytes w t ++ r)) fixed-again
+        ap (λ (x : Option Text). characters_of x (fixed_bytes w t ++ r)) fixed-again
         ∙ ap (take (length t)) (append_assoc t (replicate (w - length t) 0) r)
         ∙ take_at t (replicate (w - length t) 0 ++ r) (length t) refl
 
@@ -342,9 +347,9 @@ module _ (allowed : Allowed) where
   pub record FixedGood (w : ℕ) (s : List ℕ) (n k : ℕ) : Type 0 where
     pub whole : w ≤ length s
     pub extent : k ≡ w
-    pub ends : null allowed (take w s) ≡ At n
+    pub ends : null allowed (take w s) ≡ Some n
 
-  module _ (w : ℕ) (s : List ℕ) (n k : ℕ) (h : fixed_text allowed w s ≡ Good n k) where
+  module _ (w : ℕ) (s : List ℕ) (n k : ℕ) (h : fixed_text allowed w s ≡ good n k) where
     pub fixed-good : FixedGood w s n k
     unfolding fixed_text
     fixed-good =
@@ -363,12 +368,12 @@ module _ (allowed : Allowed) where
         (omega arith, omega arith)
 
     -- the answer depends on the field's own bytes alone
-    pub fixed-own : (r : List ℕ) → fixed_text allowed w (take k s ++ r) ≡ Good n k
+    pub fixed-own : (r : List ℕ) → fixed_text allowed w (take k s ++ r) ≡ good n k
     unfolding ended
     fixed-own r =
         let g = fixed-good in
         ap (λ (j : ℕ). fixed_text allowed w (take j s ++ r)) g.extent
-        ∙ fixed_of w (take w s) r (length-take-le w s g.whole) ∙ ap (ended w) g.ends ∙ ap (Good n) (sym g.extent)
+        ∙ fixed_of w (take w s) r (length-take-le w s g.whole) ∙ ap (ended w) g.ends ∙ ap (good n) (sym g.extent)
 
     -- the writer takes the characters
     pub fixed-writable : w ≤ 4096 → takes allowed w (take n s) ≡ true
@@ -393,18 +398,18 @@ module _ (allowed : Allowed) where
 
   -- the reader's answers, n being the length that it read: too long, cut off, or by where the null was found
   module _ (size : ℕ) (s : List ℕ) (n : ℕ) (b : 2 ≤ length s) (q : n ≡ number (take 2 s)) where
-    pub variable-long : size < n → variable_text allowed size s ≡ Bad
+    pub variable-long : size < n → variable_text allowed size s ≡ None
     unfolding variable_text variable_body
     variable-long l = rw (le-leb 2 (length s) b, ← q, lt-leb n size l)
 
     module _ (l : n ≤ size) where
-      pub variable-cut : length s < 2 + n → variable_text allowed size s ≡ Bad
+      pub variable-cut : length s < 2 + n → variable_text allowed size s ≡ None
       unfolding variable_text variable_body
       variable-cut a =
           let m : length (drop 2 s) < n = rw length-drop (omega arith) in
           rw (le-leb 2 (length s) b, ← q, le-leb n size l, lt-leb n (length (drop 2 s)) m)
 
-      pub variable-read : 2 + n ≤ length s → (x : Null) → null allowed (take n (drop 2 s)) ≡ x → variable_text allowed size s ≡ ended (2 + n) x
+      pub variable-read : 2 + n ≤ length s → (x : Option ℕ) → null allowed (take n (drop 2 s)) ≡ x → variable_text allowed size s ≡ ended (2 + n) x
       unfolding variable_text variable_body
       variable-read a x e =
           let m : n ≤ length (drop 2 s) = rw length-drop (omega arith) in
@@ -412,7 +417,7 @@ module _ (allowed : Allowed) where
 
   -- a written text is read back, whatever stands behind it
   module _ (w : ℕ) (t r : List ℕ) (h : takes allowed w t ≡ true) where
-    pub variable-again : variable_text allowed w (variable_bytes t ++ r) ≡ Good (length t) (length t + 3)
+    pub variable-again : variable_text allowed w (variable_bytes t ++ r) ≡ good (length t) (length t + 3)
     unfolding variable_bytes ended
     variable-again =
         let k = taken w t h in
@@ -422,13 +427,13 @@ module _ (allowed : Allowed) where
         let e : 2 + length x ≡ length t + 3 = omega arith in
         ap (variable_text allowed w) (append_assoc (number_bytes 2 (length t + 1)) x r)
         ∙ variable-of w (number_bytes 2 (length t + 1)) x r (length-number_bytes 2 (length t + 1)) (number-number_bytes 2 (length t + 1) f ∙ sym m) (omega arith)
-        ∙ ap (ended (2 + length x)) (null-after t [] k.characters) ∙ ap (Good (length t)) e
+        ∙ ap (ended (2 + length x)) (null-after t [] k.characters) ∙ ap (good (length t)) e
 
     pub variable-part-again : variable_part allowed w (variable_bytes t ++ r) ≡ t
     unfolding variable_part characters_of variable_bytes
     variable-part-again =
         let p = number_bytes 2 (length t + 1) in
-        ap (λ (x : Text). characters_of x (drop 2 (variable_bytes t ++ r))) variable-again
+        ap (λ (x : Option Text). characters_of x (drop 2 (variable_bytes t ++ r))) variable-again
         ∙ ap (λ (x : List ℕ). take (length t) (drop 2 x)) (append_assoc p (t ++ 0 ∷ []) r)
         ∙ ap (take (length t)) (drop_at p ((t ++ 0 ∷ []) ++ r) 2 (length-number_bytes 2 (length t + 1)) ∙ append_assoc t (0 ∷ []) r)
         ∙ take_at t (0 ∷ r) (length t) refl
@@ -438,16 +443,16 @@ module _ (allowed : Allowed) where
     pub most : number (take 2 s) ≤ size
     pub whole : 2 + number (take 2 s) ≤ length s
     pub extent : k ≡ 2 + number (take 2 s)
-    pub ends : null allowed (take (number (take 2 s)) (drop 2 s)) ≡ At n
+    pub ends : null allowed (take (number (take 2 s)) (drop 2 s)) ≡ Some n
 
-  module _ (size : ℕ) (s : List ℕ) (n k : ℕ) (h : variable_text allowed size s ≡ Good n k) where
+  module _ (size : ℕ) (s : List ℕ) (n k : ℕ) (h : variable_text allowed size s ≡ good n k) where
     pub variable-good : VariableGood size s n k
     unfolding variable_text variable_body
     variable-good =
         let m = number (take 2 s) in
         let x = drop 2 s in
         let p = good-if (leb 2 (length s)) (variable_body allowed size m x) n k h in
-        let q = good-if (leb m size) (cond (leb m (length x)) (ended (2 + m) (null allowed (take m x))) Bad) n k p.1 in
+        let q = good-if (leb m size) (cond (leb m (length x)) (ended (2 + m) (null allowed (take m x))) None) n k p.1 in
         let r = good-if (leb m (length x)) (ended (2 + m) (null allowed (take m x))) n k q.1 in
         let e = ended-good (2 + m) (null allowed (take m x)) n k r.1 in
         let a : 2 ≤ length s = leb-true 2 (length s) p.0 in
@@ -472,7 +477,7 @@ module _ (allowed : Allowed) where
         (omega arith, omega arith)
 
     -- the answer depends on the field's own bytes alone
-    pub variable-own : (r : List ℕ) → variable_text allowed size (take k s ++ r) ≡ Good n k
+    pub variable-own : (r : List ℕ) → variable_text allowed size (take k s ++ r) ≡ good n k
     unfolding ended
     variable-own r =
         let g = variable-good in
@@ -486,7 +491,7 @@ module _ (allowed : Allowed) where
         ∙ ap (λ (y : List ℕ). variable_text allowed size (y ++ r)) (take-add 2 m s)
         ∙ ap (variable_text allowed size) (append_assoc (take 2 s) x r)
         ∙ variable-of size (take 2 s) x r (length-take-le 2 s a) (sym e) b
-        ∙ ap (ended (2 + length x)) g.ends ∙ ap (λ (j : ℕ). Good n (2 + j)) e ∙ ap (Good n) (sym g.extent)
+        ∙ ap (ended (2 + length x)) g.ends ∙ ap (λ (j : ℕ). good n (2 + j)) e ∙ ap (good n) (sym g.extent)
 
     -- the writer takes the characters
     pub variable-writable : size ≤ 4096 → takes allowed size (take n (drop 2 s)) ≡ true
@@ -506,29 +511,33 @@ module _ (allowed : Allowed) where
   -- the characters of any text, also of a bad one, fit its field: they are no more than a fixed text's width, and with the null no more than
   -- two bytes count
   module _ (w : ℕ) (s : List ℕ) where
-    fixed-fits-by : (x : Text) → fixed_text allowed w s ≡ x → length (characters_of x s) ≤ w
+    fixed-fits-by : (x : Option Text) → fixed_text allowed w s ≡ x → length (characters_of x s) ≤ w
     unfolding characters_of
-    fixed-fits-by (Good n k) h =
+    fixed-fits-by (Some text) h =
+        let n = text.characters in
+        let k = text.taken in
         let i = fixed-within w s n k h in
         let e : k ≡ w = (fixed-good w s n k h).extent in
         let m : length (take n s) ≡ n = length-take-le n s (omega arith) in
         omega arith
-    fixed-fits-by Bad h = omega arith
+    fixed-fits-by None h = omega arith
 
     pub fixed-fits : length (fixed_part allowed w s) ≤ w
     unfolding fixed_part
     fixed-fits = fixed-fits-by (fixed_text allowed w s) refl
 
-    variable-fits-by : Bytes s → (x : Text) → variable_text allowed w s ≡ x → length (characters_of x (drop 2 s)) + 1 < 256 ^ 2
+    variable-fits-by : Bytes s → (x : Option Text) → variable_text allowed w s ≡ x → length (characters_of x (drop 2 s)) + 1 < 256 ^ 2
     unfolding characters_of
-    variable-fits-by b (Good n k) h =
+    variable-fits-by b (Some text) h =
+        let n = text.characters in
+        let k = text.taken in
         let i = variable-within w s n k h in
         let e : k ≡ 2 + number (take 2 s) = (variable-good w s n k h).extent in
         let f : number (take 2 s) < 256 ^ 2 = number-take s 2 b in
         let l : n ≤ length (drop 2 s) = rw length-drop (omega arith) in
         let m : length (take n (drop 2 s)) ≡ n = length-take-le n (drop 2 s) l in
         omega arith
-    variable-fits-by b Bad h = omega arith
+    variable-fits-by b None h = omega arith
 
     pub variable-fits : Bytes s → length (variable_part allowed w s) + 1 < 256 ^ 2
     unfolding variable_part

@@ -5,8 +5,8 @@ ghost use Rattle.std.specs.Int.Count.{count_trailing_zeros};
 ghost use Rattle.wire.specs.Laying.{Lays};
 ghost use Rattle.wire.specs.Text.{is_character, all_characters, characters, null, fixed_text, variable_text, fixed_part, variable_part, fixed_bytes, variable_bytes, takes, put_fixed, fixed_laid, put_variable, variable_laid};
 
-use crate::laying::{Laid, lay};
-use crate::number::{put_u16, read_eight, read_u16};
+use crate::laying::{NotLaid, lay};
+use crate::number::{lay_number, read_eight, read_u16};
 
 // No message has more bytes, and the text writer takes no greater width.
 pub const LONGEST: usize = 4096;
@@ -18,18 +18,11 @@ pub enum Allowed {
     Accented,
 }
 
-// Where a text's null stands, if only characters stand before it.
-#[derive(Clone, Copy)]
-enum Null {
-    At(usize),
-    Nowhere,
-}
-
-// How many characters stand before a text's null, and how many bytes the whole field takes.
-#[derive(Clone, Copy)]
-pub enum Text {
-    Good { characters: usize, taken: usize },
-    Bad,
+// A good text: how many characters stand before its null, and how many bytes the whole field takes.
+#[derive(Clone, Copy, PartialEq, Eq, Debug)]
+pub struct Text {
+    pub characters: usize,
+    pub taken: usize,
 }
 
 // Whether a byte is among the characters that a text is allowed.
@@ -87,54 +80,51 @@ pub fn characters_in(allowed: Allowed, s: &[u8]) -> usize
     i
 }
 
-fn null_in(allowed: Allowed, s: &[u8]) -> Null
+// Where a text's null stands, if only characters stand before it.
+fn null_in(allowed: Allowed, s: &[u8]) -> Option<usize>
     ensures { result ≡ null allowed s.now }
 {
     let n = characters_in(allowed, s);
     if n < s.len() && s[n] == 0 {
-        return Null::At(n);
+        return Some(n);
     }
-    Null::Nowhere
+    None
 }
 
 // The fixed text of this width at the front of s.
-pub fn fixed_text(allowed: Allowed, width: usize, s: &[u8]) -> Text
+pub fn fixed_text(allowed: Allowed, width: usize, s: &[u8]) -> Option<Text>
     ensures { result ≡ fixed_text allowed width s.now }
 {
     if s.len() < width {
-        return Text::Bad;
+        return None;
     }
-    match null_in(allowed, &s[..width]) {
-        Null::At(n) => Text::Good {
-            characters: n,
-            taken: width,
-        },
-        Null::Nowhere => Text::Bad,
-    }
+    let characters = null_in(allowed, &s[..width])?;
+    Some(Text {
+        characters,
+        taken: width,
+    })
 }
 
 // The variable text at the front of s: its length in two bytes, from 1 to `size`, and so many bytes after them.
-pub fn variable_text(allowed: Allowed, size: usize, s: &[u8]) -> Text
+pub fn variable_text(allowed: Allowed, size: usize, s: &[u8]) -> Option<Text>
     ensures { result ≡ variable_text allowed size s.now }
 {
     if s.len() < 2 {
-        return Text::Bad;
+        return None;
     }
     let n = read_u16(s) as usize;
     if size < n {
-        return Text::Bad;
+        return None;
     }
     let end = 2 + n;
     if s.len() < end {
-        return Text::Bad;
+        return None;
     }
-    match null_in(allowed, &s[2..end]) {
-        Null::At(k) => Text::Good {
-            characters: k,
-            taken: end,
-        },
-        Null::Nowhere => Text::Bad,
-    }
+    let characters = null_in(allowed, &s[2..end])?;
+    Some(Text {
+        characters,
+        taken: end,
+    })
 }
 
 // The characters of a fixed text, a part of the caller's bytes; empty where the text is bad.
@@ -142,11 +132,8 @@ pub fn fixed_part(allowed: Allowed, width: usize, s: &[u8]) -> &[u8]
     ensures { result.now ≡ fixed_part allowed width s.now }
 {
     match fixed_text(allowed, width, s) {
-        Text::Good {
-            characters,
-            taken: _,
-        } => &s[..characters],
-        Text::Bad => &s[..0],
+        Some(text) => &s[..text.characters],
+        None => &s[..0],
     }
 }
 
@@ -155,14 +142,8 @@ pub fn variable_part(allowed: Allowed, size: usize, s: &[u8]) -> &[u8]
     ensures { result.now ≡ variable_part allowed size s.now }
 {
     match variable_text(allowed, size, s) {
-        Text::Good {
-            characters,
-            taken: _,
-        } => {
-            let end = 2 + characters;
-            &s[2..end]
-        }
-        Text::Bad => &s[..0],
+        Some(text) => &s[2..2 + text.characters],
+        None => &s[..0],
     }
 }
 
@@ -199,64 +180,69 @@ fn clear(d: &mut [u8])
 }
 
 // Characters and zeros to the width, at the front of a lent buffer.
-fn lay_fixed(d: &mut [u8], width: usize, t: &[u8]) -> Laid
+fn lay_fixed(d: &mut [u8], width: usize, t: &[u8]) -> Result<usize, NotLaid>
     requires { length t.now ≤ width }
     ensures { Lays (fixed_bytes width t.now) d.old result d.new }
 {
     if d.len() < width {
-        return Laid::NoRoom(width);
+        return Err(NotLaid::NoRoom(width));
     }
     let n = t.len();
     lay(d, t);
     clear(&mut d[n..width]);
-    Laid::Wrote(width)
+    Ok(width)
 }
 
 // A fixed text at the front of a lent buffer: its characters, and zeros to the width.
-pub fn put_fixed(d: &mut [u8], allowed: Allowed, width: usize, t: &[u8]) -> Laid
+pub fn put_fixed(d: &mut [u8], allowed: Allowed, width: usize, t: &[u8]) -> Result<usize, NotLaid>
     ensures { (result ≡ put_fixed allowed width t.now d.old) × (d.new ≡ fixed_laid allowed width t.now d.old) }
 {
     if !takes_text(allowed, width, t) {
-        return Laid::BadText;
+        return Err(NotLaid::BadText);
     }
     lay_fixed(d, width, t)
 }
 
 // The fixed text at the front of s laid down anew: its characters, and zeros to the width. A bad text has no characters.
-pub fn copy_fixed(d: &mut [u8], allowed: Allowed, width: usize, s: &[u8]) -> Laid
+pub fn copy_fixed(d: &mut [u8], allowed: Allowed, width: usize, s: &[u8]) -> Result<usize, NotLaid>
     ensures { Lays (fixed_bytes width (fixed_part allowed width s.now)) d.old result d.new }
 {
     lay_fixed(d, width, fixed_part(allowed, width, s))
 }
 
 // The length of the characters, the null counted, the characters and the null, at the front of a lent buffer.
-fn lay_variable(d: &mut [u8], t: &[u8]) -> Laid
+fn lay_variable(d: &mut [u8], t: &[u8]) -> Result<usize, NotLaid>
     requires { length t.now < 65535 }
     ensures { Lays (variable_bytes t.now) d.old result d.new }
 {
     let n = t.len();
     let end = n + 3;
     if d.len() < end {
-        return Laid::NoRoom(end);
+        return Err(NotLaid::NoRoom(end));
     }
-    put_u16(d, (n + 1) as u16);
+    lay_number(d, 2, (n + 1) as u64);
     lay(&mut d[2..], t);
     d[n + 2] = 0;
-    Laid::Wrote(end)
+    Ok(end)
 }
 
 // A variable text at the front of a lent buffer: its length, the null counted, its characters and the null.
-pub fn put_variable(d: &mut [u8], allowed: Allowed, size: usize, t: &[u8]) -> Laid
+pub fn put_variable(d: &mut [u8], allowed: Allowed, size: usize, t: &[u8]) -> Result<usize, NotLaid>
     ensures { (result ≡ put_variable allowed size t.now d.old) × (d.new ≡ variable_laid allowed size t.now d.old) }
 {
     if !takes_text(allowed, size, t) {
-        return Laid::BadText;
+        return Err(NotLaid::BadText);
     }
     lay_variable(d, t)
 }
 
 // The variable text at the front of s laid down anew. A bad text has no characters.
-pub fn copy_variable(d: &mut [u8], allowed: Allowed, size: usize, s: &[u8]) -> Laid
+pub fn copy_variable(
+    d: &mut [u8],
+    allowed: Allowed,
+    size: usize,
+    s: &[u8],
+) -> Result<usize, NotLaid>
     ensures { Lays (variable_bytes (variable_part allowed size s.now)) d.old result d.new }
 {
     lay_variable(d, variable_part(allowed, size, s))

@@ -83,7 +83,7 @@ fn print_shown(rt: &impl Print, text: &[u8]) -> io::Result<()> {
     for b in text {
         let mut shown = [0u8; 4];
         let laid = put_shown(&mut shown, *b);
-        rt.write_all(shown.get(..laid.besides()).unwrap_or(&shown))?;
+        rt.write_all(shown.get(..laid.unwrap_or(0)).unwrap_or(&shown))?;
     }
     Ok(())
 }
@@ -127,16 +127,22 @@ fn digit(b: u8) -> Option<u8> {
     }
 }
 
+// The byte that two hexadecimal digits stand for.
+fn byte(pair: &[u8; 2]) -> Option<u8> {
+    let [high, low] = *pair;
+    Some(digit(high)? << 4 | digit(low)?)
+}
+
 // The bytes that hexadecimal digits stand for, up to what is no pair of digits.
 fn decode(rt: &impl AllocGlobal, digits: &[u8]) -> io::Result<Vec<u8>> {
-    let mut bytes = Vec::new(rt.alloc());
-    for pair in digits.chunks_exact(2).take(ROOM) {
-        let (Some(high), Some(low)) = (digit(pair[0]), digit(pair[1])) else {
-            break;
-        };
-        bytes.push(high << 4 | low)?;
-    }
-    Ok(bytes)
+    let (pairs, _) = digits.as_chunks();
+    Ok(
+        pairs
+            .iter()
+            .map_while(|pair| byte(pair))
+            .take(ROOM)
+            .collect(rt.alloc())?,
+    )
 }
 
 // The word at the front, and what stands behind the space that ends it.

@@ -7,25 +7,33 @@ use lib.Bits.{bit_and}
 use lib.Count.{count_leading_zeros}
 use lib.ListN.{length, take, drop}
 use Rattle.tables.specs.declared.table.Row.{Row}
-use Rattle.wire.specs.declared.laying.Laid.{Laid}
-use Rattle.wire.specs.Laying.{besides, laid, laid_answer}
+use Rattle.std.proofs.Common.{Result, length-drop}
+use Rattle.std.specs.Result.{result_unwrap_or}
+use Rattle.wire.specs.declared.laying.NotLaid.{NotLaid}
+use Rattle.wire.specs.Laying.{laid, laid_answer}
 use Rattle.fields.specs.Cut.{Piece, extent_of}
 use Rattle.fields.specs.Plain.{plain_row, plain_pieces}
-use Rattle.wire.proofs.BufferLaws.{besides-laid, lent_from}
-use Rattle.fields.proofs.FillLaws.{Each, Filled, fill-fits, fill_on}
+use Rattle.wire.proofs.BufferLaws.{wrote-laid, lent_from}
+use Rattle.wire.proofs.TestLaws.{rest_of}
+use Rattle.fields.proofs.FillLaws.{Each, Filled, fill-fits, fill-same, fill_on}
 
 -- all pieces in plain form, and one
 pub each-plain : (rows : ℕ → Row) → Each (plain_pieces rows) (λ (x : Piece). plain_row (rows x.position) x.bytes)
 unfolding plain_pieces
 each-plain rows = record { none = refl; one = λ x xs. refl }
 
--- the next field's plain form e is laid: a is the answer and n what it says besides
+-- the next field's plain form e is laid: a is the answer and n what it says was written
 module _ {rows : ℕ → Row} {m d₀ whole d : List ℕ} {at left : ℕ} {rest : List ℕ} (i : Filled rows m (plain_pieces rows) d₀ whole d at left rest) (h : left ≡ 0 → ⊥)
-    (e : List ℕ) (same : plain_row (rows (count_leading_zeros 64 left)) rest ≡ e) (a : Laid) (n : ℕ)
-    (o : a ≡ laid_answer e (take (length d - at) (drop at d))) (b : n ≡ besides a) where
+    (e : List ℕ) (same : plain_row (rows (count_leading_zeros 64 left)) rest ≡ e) (a : Result ℕ NotLaid) (n : ℕ)
+    (o : a ≡ laid_answer e (take (length d - at) (drop at d))) (b : n ≡ result_unwrap_or a 0) where
   -- which is its length
   long : n ≡ length e
-  long = b ∙ ap besides o ∙ besides-laid e (take (length d - at) (drop at d))
+  long =
+      let lent = take (length d - at) (drop at d) in
+      let l : length lent ≡ length d - at = ap length (rest_of d at) ∙ length-drop at d in
+      let f = fill-fits i (each-plain rows) h e same in
+      let s = fill-same i in
+      b ∙ ap (λ (x : Result ℕ NotLaid). result_unwrap_or x 0) (o ∙ wrote-laid e lent (omega arith))
 
   -- the buffer has room for it
   pub put-fits : at + n ≤ length d₀

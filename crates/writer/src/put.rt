@@ -39,25 +39,25 @@ pub(crate) fn put_fields(d: &mut [u8], messagetype: u8, map: &[u8], body: &[u8])
         match shape_at(messagetype, p) {
             Shape::Number(width) => {
                 let laid = copy_number(&mut d[at..], width, rest);
-                at += laid.besides();
+                at += laid.unwrap_or(0);
                 let next = behind(rest, width);
                 rest = next;
             }
             Shape::Decimal => {
                 let laid = copy_decimal(&mut d[at..], rest);
-                at += laid.besides();
+                at += laid.unwrap_or(0);
                 let next = behind(rest, 8);
                 rest = next;
             }
             Shape::Fixed(allowed, width) => {
                 let laid = copy_fixed(&mut d[at..], allowed, width, rest);
-                at += laid.besides();
+                at += laid.unwrap_or(0);
                 let next = behind(rest, width);
                 rest = next;
             }
             Shape::Other => {
                 let laid = copy_other(&mut d[at..], messagetype, p, rest);
-                at += laid.besides();
+                at += laid.unwrap_or(0);
                 let next = behind(rest, extent_at(messagetype, p, rest));
                 rest = next;
             }
@@ -71,12 +71,12 @@ fn put_values(d: &mut [u8], n: u16, header: Header)
     requires { comp_id_at ≤ length d.old }
     ensures { d.new ≡ laid (value_bytes n header) d.old }
 {
-    put_u8(d, STX);
-    put_u16(&mut d[LENGTH_AT..], n);
-    put_u8(&mut d[TYPE_AT..], header.messagetype);
-    put_u32(&mut d[NUMBER_AT..], header.number);
-    put_u8(&mut d[POSS_DUP_AT..], header.possdup);
-    put_u8(&mut d[POSS_RESEND_AT..], header.possresend);
+    let _ = put_u8(d, STX);
+    let _ = put_u16(&mut d[LENGTH_AT..], n);
+    let _ = put_u8(&mut d[TYPE_AT..], header.messagetype);
+    let _ = put_u32(&mut d[NUMBER_AT..], header.number);
+    let _ = put_u8(&mut d[POSS_DUP_AT..], header.possdup);
+    let _ = put_u8(&mut d[POSS_RESEND_AT..], header.possresend);
 }
 
 // The map, eight bytes at a time.
@@ -84,10 +84,10 @@ fn put_map(d: &mut [u8], map: &[u8])
     requires { (map_bytes ≤ length d.old) × (length map.now ≡ map_bytes) }
     ensures { d.new ≡ laid map.now d.old }
 {
-    put_u64(d, read_eight(map));
-    put_u64(&mut d[8..], read_eight(&map[8..]));
-    put_u64(&mut d[16..], read_eight(&map[16..]));
-    put_u64(&mut d[24..], read_eight(&map[24..]));
+    let _ = put_u64(d, read_eight(map));
+    let _ = put_u64(&mut d[8..], read_eight(&map[8..]));
+    let _ = put_u64(&mut d[16..], read_eight(&map[16..]));
+    let _ = put_u64(&mut d[24..], read_eight(&map[24..]));
 }
 
 // The bytes before the fields of a message of n bytes.
@@ -96,7 +96,7 @@ pub(crate) fn put_head(d: &mut [u8], n: u16, header: Header, comp: &[u8], map: &
     ensures { d.new ≡ laid (head_bytes n header comp.now map.now) d.old }
 {
     put_values(d, n, header);
-    put_fixed(&mut d[COMP_ID_AT..], Allowed::Ascii, COMP_ID_BYTES, comp);
+    let _ = put_fixed(&mut d[COMP_ID_AT..], Allowed::Ascii, COMP_ID_BYTES, comp);
     put_map(&mut d[MAP_AT..], map);
 }
 
@@ -107,5 +107,5 @@ pub(crate) fn put_sum(d: &mut [u8], n: usize)
 {
     let end = n - SUM_BYTES;
     let sum = crc32c(&d[START_AT..end]);
-    put_u32(&mut d[end..], sum);
+    let _ = put_u32(&mut d[end..], sum);
 }

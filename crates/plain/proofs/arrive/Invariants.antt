@@ -1,10 +1,6 @@
--- `plain::arrive` meets its contract: the invariant is that the arrivals before the i-th are walked.
-use Prim.Native.Nat.{◌+◌, ◌-◌}
+-- `plain::arrive` meets its contract: the invariant is that the arrivals passed are walked.
 use Rattle.plain.proofs.WalkLaws.{Walked}
 use Rattle.plain.proofs.arrive.Given as goal
 
-abbrev pub invariant-loop-i : goal.invariant-loop-i
-invariant-loop-i l = Walked l.list l.count l.initial.told l.told l.i
-
-abbrev pub decreases-loop-i : goal.decreases-loop-i
-decreases-loop-i l = l.count + 1 - l.i
+abbrev pub invariant-loop-a : goal.invariant-loop-a
+invariant-loop-a l = Walked l.arrivals l.initial.told l.told l.a-index

@@ -4,13 +4,6 @@ use lib.ListN.{length}
 use Rattle.plan.proofs.PlanLaws.{no-part-left}
 use Rattle.plan.proofs.count_parts.Goals as goal
 
-pub loop-i-init : goal.loop-i-init
-loop-i-init c = (c.requires.0, omega arith, omega arith)
-
-pub loop-i-preserved : goal.loop-i-preserved
-loop-i-preserved c =
-    (omega arith, omega arith, omega (arith, c.loop-i.invariant.2, ap length c.part_at-reach.ensures.i_value))
-
 pub returns : goal.returns
 returns c =
     let a = c.args in

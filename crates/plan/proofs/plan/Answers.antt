@@ -30,9 +30,6 @@ returns-then-not-is_request c =
     let a = c.args in
     refused (parts_of a.list.now a.s a.e) a.d.now (sym c.is_request.ensures ∙ c.if-not-is_request.true)
 
-pub slice_bounds-upto-end : goal.slice_bounds-upto-end
-slice_bounds-upto-end c = sym (length-take-le c.last_number-last.result c.args.list.now c.last_number-last.ensures.1)
-
 pub overflow_sub-start : goal.overflow_sub-start
 overflow_sub-start c = (requested c.args.list.now c.args.s c.args.e (sym c.is_request.ensures ∙ c.if-not-is_request.false)).from_one
 

@@ -1,36 +1,14 @@
 use mathlib.Core.Path.{subst}
 use mathlib.Core.List.{List}
 use Prim.Native.Nat.{ℕ, ◌+◌}
-use native.Mathlib.Omega.{arith}
-use lib.ListN.{drop, length-set}
+use lib.ListN.{drop}
 use Rattle.plan.specs.Plan.{Part, gap_fill, parts_from}
-use Rattle.plan.proofs.PlanLaws.{Written, written_none, written-part, written-room, written_all, no-part-left}
+use Rattle.plan.proofs.PlanLaws.{Written, written-part, written_all, no-part-left}
 use Rattle.plan.proofs.write_parts.Goals as goal
 
 -- the parts to write
 abbrev all : ℕ → List ℕ → List Part
 all start list = parts_from (start + 1) (drop start list)
-
-pub loop-i-init : goal.loop-i-init
-loop-i-init c = let a = c.args in (c.requires.0, written_none (parts_from (a.start + 1) (drop a.start a.list.now)) a.d.now)
-
-pub offset_bounds-d-at : goal.offset_bounds-d-at
-offset_bounds-d-at c = omega (arith, written-room _ _ _ _ _ _ _ c.requires.2 c.part_at-reach.ensures.i_value c.loop-i.invariant.1)
-
-pub bounds-d-at : goal.bounds-d-at
-bounds-d-at c = omega (arith, written-room _ _ _ _ _ _ _ c.requires.2 c.part_at-reach.ensures.i_value c.loop-i.invariant.1)
-
-pub overflow_add-d-in-loop-i : goal.overflow_add-d-in-loop-i
-overflow_add-d-in-loop-i c = omega (arith, written-room _ _ _ _ _ _ _ c.requires.2 c.part_at-reach.ensures.i_value c.loop-i.invariant.1)
-
-pub offset_bounds-d-at-in-loop-i : goal.offset_bounds-d-at-in-loop-i
-offset_bounds-d-at-in-loop-i c = omega (arith, written-room _ _ _ _ _ _ _ c.requires.2 c.part_at-reach.ensures.i_value c.loop-i.invariant.1)
-
-pub bounds-d-at-in-loop-i : goal.bounds-d-at-in-loop-i
-bounds-d-at-in-loop-i c = simp length-set (omega (arith, written-room _ _ _ _ _ _ _ c.requires.2 c.part_at-reach.ensures.i_value c.loop-i.invariant.1))
-
-pub overflow_add-at : goal.overflow_add-at
-overflow_add-at c = omega (arith, written-room _ _ _ _ _ _ _ c.requires.2 c.part_at-reach.ensures.i_value c.loop-i.invariant.1)
 
 pub loop-i-preserved : goal.loop-i-preserved
 loop-i-preserved c =
@@ -40,9 +18,6 @@ loop-i-preserved c =
       written-part (all a.start a.list.now) (parts_from (next + 1) (drop next a.list.now)) (gap_fill (c.loop-i.i + 1) c.part_at-reach.result.new) a.d.now c.loop-i.d c.loop-i.at c.requires.2
           (subst (λ (r : List Part). Written (all a.start a.list.now) r a.d.now c.loop-i.d c.loop-i.at) c.part_at-reach.ensures.i_value c.loop-i.invariant.1),
     )
-
-pub shape_of-d : goal.shape_of-d
-shape_of-d c = c.loop-i.invariant.1.size
 
 pub returns : goal.returns
 returns c =

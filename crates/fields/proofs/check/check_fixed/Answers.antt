@@ -3,11 +3,11 @@ use mathlib.Core.Path.{sym, ap, ◌∙◌}
 use Rattle.fields.specs.Check.{fixed_taken, fixed}
 use Rattle.fields.proofs.check.check_fixed.Goals as goal
 
-pub returns-in-Good : goal.returns-in-Good
+pub returns-in-Some : goal.returns-in-Some
 unfolding fixed fixed_taken
-returns-in-Good c =
-    ap fixed_taken (sym (sym c.fixed_text.ensures ∙ c.in-Good.is))
+returns-in-Some c =
+    ap fixed_taken (sym (sym c.fixed_text.ensures ∙ c.in-Some.is))
 
-pub returns-in-Bad : goal.returns-in-Bad
+pub returns-in-None : goal.returns-in-None
 unfolding fixed fixed_taken
-returns-in-Bad c = ap fixed_taken (sym (sym c.fixed_text.ensures ∙ c.in-Bad.is))
+returns-in-None c = ap fixed_taken (sym (sym c.fixed_text.ensures ∙ c.in-None.is))

@@ -8,14 +8,14 @@ use Rattle.fields.proofs.check.check_variable.Goals as goal
 pub overflow_add-result : goal.overflow_add-result
 overflow_add-result c =
     let a = c.args in
-    let i = variable-within _ a.size a.s.now c.in-Good.characters _ (sym c.variable_text.ensures ∙ c.in-Good.is) in
+    let i = variable-within _ a.size a.s.now c.in-Some.text.characters _ (sym c.variable_text.ensures ∙ c.in-Some.is) in
     omega arith
 
-pub returns-in-Good : goal.returns-in-Good
+pub returns-in-Some : goal.returns-in-Some
 unfolding variable variable_taken
-returns-in-Good c =
-    ap variable_taken (sym (sym c.variable_text.ensures ∙ c.in-Good.is))
+returns-in-Some c =
+    ap variable_taken (sym (sym c.variable_text.ensures ∙ c.in-Some.is))
 
-pub returns-in-Bad : goal.returns-in-Bad
+pub returns-in-None : goal.returns-in-None
 unfolding variable variable_taken
-returns-in-Bad c = ap variable_taken (sym (sym c.variable_text.ensures ∙ c.in-Bad.is))
+returns-in-None c = ap variable_taken (sym (sym c.variable_text.ensures ∙ c.in-None.is))

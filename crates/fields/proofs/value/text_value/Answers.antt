@@ -2,10 +2,10 @@
 use Rattle.fields.specs.Value.{text_value}
 use Rattle.fields.proofs.value.text_value.Goals as goal
 
-pub returns-in-Good : goal.returns-in-Good
+pub returns-in-Some : goal.returns-in-Some
 unfolding text_value
-returns-in-Good c = simp c.in-Good.is
+returns-in-Some c = simp c.in-Some.is
 
-pub returns-in-Bad : goal.returns-in-Bad
+pub returns-in-None : goal.returns-in-None
 unfolding text_value
-returns-in-Bad c = simp c.in-Bad.is
+returns-in-None c = simp c.in-None.is

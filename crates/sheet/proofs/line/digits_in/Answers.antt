@@ -4,11 +4,8 @@ use native.Mathlib.Omega.{arith}
 use mathlib.Core.Bool.{true}
 use lib.ListN.{length, get_or}
 use Rattle.sheet.specs.Line.{is_digit}
-use Rattle.sheet.proofs.LineLaws.{Reading, reading-none, reading-more, reading-ends, digit-range}
+use Rattle.sheet.proofs.LineLaws.{Reading, reading-more, reading-ends, digit-range}
 use Rattle.sheet.proofs.line.digits_in.Goals as goal
-
-pub loop-i-init : goal.loop-i-init
-loop-i-init c = reading-none c.args.s.now
 
 pub returns-then-not-is_digit : goal.returns-then-not-is_digit
 returns-then-not-is_digit c =

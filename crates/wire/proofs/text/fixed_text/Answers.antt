@@ -14,14 +14,14 @@ slice_bounds-null_in-end c =
     let a = c.args in
     sym (length-take-le a.width a.s.now (omega arith))
 
-pub returns-in-At : goal.returns-in-At
+pub returns : goal.returns
 unfolding ended
-returns-in-At c =
+returns c =
     let a = c.args in
-    sym (fixed-read _ a.width a.s.now _ (omega arith) (sym c.null_in.ensures ∙ c.in-At.is))
+    sym (fixed-read _ a.width a.s.now _ (omega arith) (sym c.null_in.ensures ∙ c.in_ok-characters.was))
 
-pub returns-in-Nowhere : goal.returns-in-Nowhere
+pub returns-in_err-characters : goal.returns-in_err-characters
 unfolding ended
-returns-in-Nowhere c =
+returns-in_err-characters c =
     let a = c.args in
-    sym (fixed-read _ a.width a.s.now _ (omega arith) (sym c.null_in.ensures ∙ c.in-Nowhere.is))
+    c.from_residual.ensures ∙ sym (fixed-read _ a.width a.s.now _ (omega arith) (sym c.null_in.ensures ∙ c.in_err-characters.was))

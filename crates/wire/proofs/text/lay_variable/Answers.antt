@@ -1,10 +1,8 @@
 -- `wire::text::lay_variable` meets its contract: the length is laid at the front, the text behind it, and the null behind the text.
-use Rattle.std.proofs.Common.{◌≡◌, ◌+◌, ◌-◌, ◌++◌, length, drop, sym, refl, ◌∙◌, arith, length-set}
+use Rattle.std.proofs.Common.{◌+◌, ◌-◌, length, ◌∙◌, arith, length-set}
 use borrow.Rule.Slice.PartMut.{put_mid, same_len_mid}
-use Rattle.wire.specs.Number.{number_bytes}
 use Rattle.wire.specs.Text.{variable_bytes}
 use Rattle.wire.proofs.LayingLaws.{laid-no, laid-yes}
-use Rattle.wire.proofs.NumberLaws.{length-number_bytes}
 use Rattle.wire.proofs.TextLaws.{length-variable_bytes, lay-variable}
 use Rattle.wire.proofs.text.lay_variable.Goals as goal
 
@@ -16,11 +14,11 @@ returns-then-d-end c =
 
 pub shape_of-d : goal.shape_of-d
 shape_of-d c =
-    let d = c.put_u16.new.d in
+    let d = c.lay_number.new.d in
     let y = c.lay.new.d in
     let k = length d - 2 in
     length-set (put_mid 2 k d y) (length c.args.t.now + 2) 0
-    ∙ same_len_mid 2 k d y c.lay.auto.d ∙ c.put_u16.auto.d
+    ∙ same_len_mid 2 k d y c.lay.auto.d ∙ c.lay_number.auto.d
 
 pub returns : goal.returns
 returns c =
@@ -28,8 +26,5 @@ returns c =
     let t = a.t.now in
     let d = a.d.now in
     let n = length t in
-    let h = number_bytes 2 (n + 1) in
-    let front : c.put_u16.new.d ≡ h ++ drop 2 d =
-    c.put_u16.ensures.1 ∙ sym (laid-yes h d 2 (length-number_bytes 2 (n + 1)) (omega arith) (h ++ drop 2 d) refl).1 in
     laid-yes (variable_bytes t) d (n + 3) (length-variable_bytes t) (omega arith) _
-    (lay-variable d t c.put_u16.new.d c.lay.new.d (omega arith) front c.lay.ensures)
+    (lay-variable d t c.lay_number.new.d c.lay.new.d (omega arith) c.lay_number.ensures c.lay.ensures)

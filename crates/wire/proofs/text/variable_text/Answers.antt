@@ -19,20 +19,21 @@ returns-then-s-end c =
     let a = c.args in
     sym (variable-cut _ a.size a.s.now c.read_u16-n.result (omega arith) c.read_u16-n.ensures (omega arith) (omega arith))
 
-pub returns-in-At : goal.returns-in-At
+pub returns : goal.returns
 unfolding ended
-returns-in-At c =
+returns c =
     let a = c.args in
     let n = c.read_u16-n.result in
     let e : n ≡ 2 + n - 2 = omega arith in
     sym (variable-read _ a.size a.s.now n (omega arith) c.read_u16-n.ensures (omega arith) (omega arith) _
-    (ap (λ (j : ℕ). null a.allowed (take j (drop 2 a.s.now))) e ∙ sym c.null_in.ensures ∙ c.in-At.is))
+    (ap (λ (j : ℕ). null a.allowed (take j (drop 2 a.s.now))) e ∙ sym c.null_in.ensures ∙ c.in_ok-characters.was))
 
-pub returns-in-Nowhere : goal.returns-in-Nowhere
+pub returns-in_err-characters : goal.returns-in_err-characters
 unfolding ended
-returns-in-Nowhere c =
+returns-in_err-characters c =
     let a = c.args in
     let n = c.read_u16-n.result in
     let e : n ≡ 2 + n - 2 = omega arith in
-    sym (variable-read _ a.size a.s.now n (omega arith) c.read_u16-n.ensures (omega arith) (omega arith) _
-    (ap (λ (j : ℕ). null a.allowed (take j (drop 2 a.s.now))) e ∙ sym c.null_in.ensures ∙ c.in-Nowhere.is))
+    c.from_residual.ensures
+    ∙ sym (variable-read _ a.size a.s.now n (omega arith) c.read_u16-n.ensures (omega arith) (omega arith) _
+    (ap (λ (j : ℕ). null a.allowed (take j (drop 2 a.s.now))) e ∙ sym c.null_in.ensures ∙ c.in_err-characters.was))

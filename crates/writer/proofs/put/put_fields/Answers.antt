@@ -26,7 +26,7 @@ pub overflow_add-at : goal.overflow_add-at
 overflow_add-at c =
     omega (
       arith,
-      put-fits c.loop-left.invariant c.loop-left-test.true _ (at-number _ _ _ _ (sym c.shape_at.ensures ∙ c.in-Number.is)).plain _ _ c.copy_number-laid.ensures.0 c.besides-at.ensures,
+      put-fits c.loop-left.invariant c.loop-left-test.true _ (at-number _ _ _ _ (sym c.shape_at.ensures ∙ c.in-Number.is)).plain _ _ c.copy_number-laid.ensures.0 c.unwrap_or-at.ensures,
       c.well_formed.0,
     )
 
@@ -40,7 +40,7 @@ pub overflow_add-at-in-Decimal : goal.overflow_add-at-in-Decimal
 overflow_add-at-in-Decimal c =
     omega (
       arith,
-      put-fits c.loop-left.invariant c.loop-left-test.true _ (at-decimal _ _ _ (sym c.shape_at.ensures ∙ c.in-Decimal.is)).plain _ _ c.copy_decimal-laid.ensures.0 c.besides-at-in-Decimal.ensures,
+      put-fits c.loop-left.invariant c.loop-left-test.true _ (at-decimal _ _ _ (sym c.shape_at.ensures ∙ c.in-Decimal.is)).plain _ _ c.copy_decimal-laid.ensures.0 c.unwrap_or-at-in-Decimal.ensures,
       c.well_formed.0,
     )
 
@@ -54,7 +54,7 @@ pub overflow_add-at-in-Fixed : goal.overflow_add-at-in-Fixed
 overflow_add-at-in-Fixed c =
     omega (
       arith,
-      put-fits c.loop-left.invariant c.loop-left-test.true _ (at-fixed _ _ _ _ _ (sym c.shape_at.ensures ∙ c.in-Fixed.is)).plain _ _ c.copy_fixed-laid.ensures.0 c.besides-at-in-Fixed.ensures,
+      put-fits c.loop-left.invariant c.loop-left-test.true _ (at-fixed _ _ _ _ _ (sym c.shape_at.ensures ∙ c.in-Fixed.is)).plain _ _ c.copy_fixed-laid.ensures.0 c.unwrap_or-at-in-Fixed.ensures,
       c.well_formed.0,
     )
 
@@ -68,7 +68,7 @@ pub overflow_add-at-in-Other : goal.overflow_add-at-in-Other
 overflow_add-at-in-Other c =
     omega (
       arith,
-      put-fits c.loop-left.invariant c.loop-left-test.true _ refl _ _ c.copy_other-laid.ensures.0 c.besides-at-in-Other.ensures,
+      put-fits c.loop-left.invariant c.loop-left-test.true _ refl _ _ c.copy_other-laid.ensures.0 c.unwrap_or-at-in-Other.ensures,
       c.well_formed.0,
     )
 
@@ -87,18 +87,18 @@ loop-left-preserved c =
     elim c.match-shape_at.branch [
       | in-Number w ↦
           let s = at-number _ _ _ _ (sym c.shape_at.ensures ∙ w.in-Number.is) in
-          put_on i t _ s.plain _ _ w.copy_number-laid.ensures.0 w.besides-at.ensures _ _ _ _ _ w.copy_number-laid.ensures.1 s.taken w.d-is w.at-is
+          put_on i t _ s.plain _ _ w.copy_number-laid.ensures.0 w.unwrap_or-at.ensures _ _ _ _ _ w.copy_number-laid.ensures.1 s.taken w.d-is w.at-is
           (ap (λ x. x.now) w.rest-is ∙ w.behind-next.ensures)
       | in-Decimal w ↦
           let s = at-decimal _ _ _ (sym c.shape_at.ensures ∙ w.in-Decimal.is) in
-          put_on i t _ s.plain _ _ w.copy_decimal-laid.ensures.0 w.besides-at-in-Decimal.ensures _ _ _ _ _ w.copy_decimal-laid.ensures.1 s.taken w.d-is w.at-is
+          put_on i t _ s.plain _ _ w.copy_decimal-laid.ensures.0 w.unwrap_or-at-in-Decimal.ensures _ _ _ _ _ w.copy_decimal-laid.ensures.1 s.taken w.d-is w.at-is
           (ap (λ x. x.now) w.rest-is ∙ w.behind-next-in-Decimal.ensures)
       | in-Fixed w ↦
           let s = at-fixed _ _ _ _ _ (sym c.shape_at.ensures ∙ w.in-Fixed.is) in
-          put_on i t _ s.plain _ _ w.copy_fixed-laid.ensures.0 w.besides-at-in-Fixed.ensures _ _ _ _ _ w.copy_fixed-laid.ensures.1 s.taken w.d-is w.at-is
+          put_on i t _ s.plain _ _ w.copy_fixed-laid.ensures.0 w.unwrap_or-at-in-Fixed.ensures _ _ _ _ _ w.copy_fixed-laid.ensures.1 s.taken w.d-is w.at-is
           (ap (λ x. x.now) w.rest-is ∙ w.behind-next-in-Fixed.ensures)
       | in-Other w ↦
-          put_on i t _ refl _ _ w.copy_other-laid.ensures.0 w.besides-at-in-Other.ensures _ _ _ _ _ w.copy_other-laid.ensures.1 (sym w.extent_at.ensures) w.d-is w.at-is
+          put_on i t _ refl _ _ w.copy_other-laid.ensures.0 w.unwrap_or-at-in-Other.ensures _ _ _ _ _ w.copy_other-laid.ensures.1 (sym w.extent_at.ensures) w.d-is w.at-is
           (ap (λ x. x.now) w.rest-is ∙ w.behind-next-in-Other.ensures)
     ]
 

@@ -1,5 +1,0 @@
--- The rows left are counted down.
-use Rattle.replay.proofs.say_rows.Given as goal
-
-abbrev pub decreases-loop-left : goal.decreases-loop-left
-decreases-loop-left g l = l.left
