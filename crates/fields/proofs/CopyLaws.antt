@@ -1,14 +1,18 @@
 -- What is laid at the front of a buffer, as the functions that lay a plain form hand it on.
-use Rattle.std.proofs.Common.{Result, Ok}
+use Rattle.std.specs.Prelude.{Result, Ok, None}
 use mathlib.Core.Path.{◌≡◌, refl, sym, ap, subst, ◌∙◌}
 use mathlib.Core.List.{List, [], ◌∷◌, ◌++◌}
 use Prim.Native.Nat.{ℕ, ◌≤◌}
 use native.Mathlib.Omega.{arith}
 use lib.ListN.{length, get_or, set, take, drop}
 use lib.Seq.{length-take-le}
+use Rattle.tables.specs.declared.table.Row.{Row}
+use Rattle.tables.specs.declared.table.Row.TheVariants.{Required, Optional, UnknownPosition, UnknownType}
+use Rattle.tables.specs.Line.{field_of}
 use Rattle.wire.specs.declared.laying.NotLaid.{NotLaid}
 use Rattle.wire.specs.Laying.{laid, laid_answer}
 use Rattle.wire.specs.Number.{Bytes, number, number_bytes}
+use Rattle.fields.specs.Plain.{plain_row}
 use Rattle.wire.proofs.LayingLaws.{laid-yes}
 use Rattle.wire.proofs.NumberLaws.{bytes_take, number_bytes-number}
 
@@ -17,8 +21,19 @@ pub laid_as : (x y d e : List ℕ) (r : Result ℕ NotLaid) → x ≡ y → (r �
 laid_as x y d e r q h = subst (λ (bs : List ℕ). (r ≡ laid_answer bs d) × (e ≡ laid bs d)) q h
 
 -- no bytes are laid anywhere
-pub laid_none : (d : List ℕ) → (Ok 0 ≡ laid_answer [] d) × (d ≡ laid [] d)
+laid_none : (d : List ℕ) → (Ok 0 ≡ laid_answer [] d) × (d ≡ laid [] d)
 laid_none d = laid-yes [] d 0 refl (omega arith) d refl
+
+-- so of a row that names no field
+unnamed : (row : Row) (s : List ℕ) → field_of row ≡ None → [] ≡ plain_row row s
+unfolding field_of plain_row
+unnamed (Required f) s e = let z : ◌≡◌ {A = ℕ} 0 1 = cc in absurd (omega arith)
+unnamed (Optional f) s e = let z : ◌≡◌ {A = ℕ} 0 1 = cc in absurd (omega arith)
+unnamed UnknownPosition s e = refl
+unnamed UnknownType s e = refl
+
+pub laid_unnamed : (row : Row) (s d : List ℕ) → field_of row ≡ None → (Ok 0 ≡ laid_answer (plain_row row s) d) × (d ≡ laid (plain_row row s) d)
+laid_unnamed row s d e = laid_as [] (plain_row row s) d d (Ok 0) (unnamed row s e) (laid_none d)
 
 -- one byte laid by itself
 first-set : (s d : List ℕ) → 1 ≤ length s → 1 ≤ length d → set d 0 (get_or s 0 0) ≡ take 1 s ++ drop 1 d

@@ -6,7 +6,7 @@ ghost use Rattle.fields.specs.Check.{whole, yes_no, fixed, variable, check_sort,
 ghost use Rattle.fields.specs.Shapes.{shape_of, shape_at};
 
 use tables::dictionary::{NO, Sort, YES, sort_of};
-use tables::table::{EXECUTION_REPORT, Row, row_of};
+use tables::table::{EXECUTION_REPORT, row_of};
 use wire::text::{Allowed, fixed_text, variable_text};
 
 // Why a field is bad, as it overruns the bytes, is no text, or is neither 'Y' nor 'N' where it must be: document 01 has one
@@ -23,6 +23,7 @@ pub struct Checked {
     pub plain: usize,
 }
 
+#[tactic(auto, unfolding(crate::specs::Check::whole))]
 fn check_whole(width: usize, s: &[u8]) -> Result<Checked, Reason>
     ensures { result ≡ whole width s.now }
 {
@@ -35,20 +36,17 @@ fn check_whole(width: usize, s: &[u8]) -> Result<Checked, Reason>
     })
 }
 
+#[tactic(auto, unfolding(crate::specs::Check::yes_no))]
 fn check_yes_no(s: &[u8]) -> Result<Checked, Reason>
     ensures { result ≡ yes_no s.now }
 {
-    if s.len() == 0 {
-        return Err(Reason::Field);
-    }
-    let b = s[0];
-    match b {
-        YES => Ok(Checked { taken: 1, plain: 1 }),
-        NO => Ok(Checked { taken: 1, plain: 1 }),
+    match s {
+        [YES | NO, ..] => Ok(Checked { taken: 1, plain: 1 }),
         _ => Err(Reason::Field),
     }
 }
 
+#[tactic(auto, unfolding(crate::specs::Check::fixed, crate::specs::Check::fixed_taken))]
 fn check_fixed(allowed: Allowed, width: usize, s: &[u8]) -> Result<Checked, Reason>
     ensures { result ≡ fixed allowed width s.now }
 {
@@ -62,6 +60,7 @@ fn check_fixed(allowed: Allowed, width: usize, s: &[u8]) -> Result<Checked, Reas
 }
 
 // The plain form of a variable text has two bytes of length, its characters and the null.
+#[tactic(auto, unfolding(crate::specs::Check::variable, crate::specs::Check::variable_taken))]
 fn check_variable(allowed: Allowed, size: usize, s: &[u8]) -> Result<Checked, Reason>
     ensures { result ≡ variable allowed size s.now }
 {
@@ -75,6 +74,7 @@ fn check_variable(allowed: Allowed, size: usize, s: &[u8]) -> Result<Checked, Re
 }
 
 // A field of this sort at the front of s.
+#[tactic(auto, unfolding(crate::specs::Check::check_sort))]
 fn check_sort(sort: Sort, s: &[u8]) -> Result<Checked, Reason>
     ensures { result ≡ check_sort sort s.now }
 {
@@ -89,14 +89,13 @@ fn check_sort(sort: Sort, s: &[u8]) -> Result<Checked, Reason>
 }
 
 // The field that stands at position p in a message of this type, by its name and the dictionary.
+#[tactic(auto, unfolding(crate::specs::Check::check_row, tables::specs::Line::field_of))]
 pub(crate) fn check_row(messagetype: u8, p: usize, s: &[u8]) -> Result<Checked, Reason>
     ensures { result ≡ check_row (row_of messagetype p) s.now }
 {
-    match row_of(messagetype, p) {
-        Row::Required(field) => check_sort(sort_of(field), s),
-        Row::Optional(field) => check_sort(sort_of(field), s),
-        Row::UnknownPosition => Err(Reason::Field),
-        Row::UnknownType => Err(Reason::Field),
+    match row_of(messagetype, p).field() {
+        Some(field) => check_sort(sort_of(field), s),
+        None => Err(Reason::Field),
     }
 }
 
@@ -124,6 +123,7 @@ pub enum Shape {
 }
 
 // The shape of each position of an Execution Report in one step.
+#[tactic(auto, unfolding(crate::specs::Shapes::shape_of, crate::specs::Shapes::shape_in, tables::specs::Dictionary::entry, tables::specs::Dictionary::sort_of, tables::specs::Tables::row_of, tables::specs::Tables::tables_of, tables::specs::Reports::union_at, tables::specs::Reports::joined, tables::specs::Reports::not_required, tables::specs::Line::row_at, tables::specs::Line::is_required, tables::specs::Reports::nine_tables, tables::specs::Reports::reports, tables::specs::Reports::add_line, tables::specs::Reports::column))]
 fn report_shape(p: usize) -> Shape
     ensures { result ≡ shape_of (row_of execution_report_type p) }
 {
@@ -169,6 +169,7 @@ fn report_shape(p: usize) -> Shape
 }
 
 // The shape of a report's field; that of another message's is not worked out, as most messages of a day are reports.
+#[tactic(auto, unfolding(crate::specs::Shapes::shape_at))]
 pub fn shape_at(messagetype: u8, p: usize) -> Shape
     ensures { result ≡ shape_at messagetype p }
 {

@@ -6,11 +6,12 @@ ghost use Rattle.fields.specs.Cut.{extent, extent_of, cut, bytes_at, head_of};
 
 use crate::check::{Shape, shape_at};
 use tables::dictionary::{Sort, sort_of};
-use tables::table::{Row, row_of};
+use tables::table::row_of;
 use wire::map::{MAP_POSITIONS, is_present};
 use wire::number::read_u16;
 
 // How many bytes a field of this sort at the front of s takes, checked or not.
+#[tactic(auto, unfolding(crate::specs::Cut::extent))]
 fn extent_of(sort: Sort, s: &[u8]) -> usize
     ensures { result ≡ extent sort s.now }
 {
@@ -25,14 +26,13 @@ fn extent_of(sort: Sort, s: &[u8]) -> usize
 }
 
 // The field at position p of a message of this type, by its name and the dictionary.
+#[tactic(auto, unfolding(crate::specs::Cut::extent_of, tables::specs::Line::field_of))]
 fn extent_row(messagetype: u8, p: usize, s: &[u8]) -> usize
     ensures { result ≡ extent_of (row_of messagetype p) s.now }
 {
-    match row_of(messagetype, p) {
-        Row::Required(field) => extent_of(sort_of(field), s),
-        Row::Optional(field) => extent_of(sort_of(field), s),
-        Row::UnknownPosition => 0,
-        Row::UnknownType => 0,
+    match row_of(messagetype, p).field() {
+        Some(field) => extent_of(sort_of(field), s),
+        None => 0,
     }
 }
 
@@ -59,10 +59,7 @@ pub fn extent_at(messagetype: u8, p: usize, s: &[u8]) -> usize
 pub fn behind(s: &[u8], n: usize) -> &[u8]
     ensures { result.now ≡ drop n s.now }
 {
-    if s.len() < n {
-        return &s[..0];
-    }
-    &s[n..]
+    &s[n.min(s.len())..]
 }
 
 // The bytes of a body from the field at position p on; none where the map has the position clear.
@@ -76,13 +73,10 @@ pub fn bytes_at<'a>(messagetype: u8, map: &[u8], body: &'a [u8], p: usize) -> &'
         return &body[..0];
     }
     let mut rest = body;
-    let mut q: usize = 0;
-    while q < p {
+    for q in 0..p {
         if is_present(map, q) {
-            let next = behind(rest, extent_at(messagetype, q, rest));
-            rest = next;
+            rest = behind(rest, extent_at(messagetype, q, rest));
         }
-        q += 1;
     }
     rest
 }

@@ -3,7 +3,8 @@
 // the cut from field to field of a body, the value at one position, and a field's plain form.
 //
 // Every public function takes any map and any body. Of a map the positions 0 to 255 count, and those past its end
-// are clear.
+// are clear. A message type, a map and a body stand as three parameters and in no struct: most functions take two of them, or a
+// body's end in place of the body.
 #![tactic(auto)]
 
 pub mod check;

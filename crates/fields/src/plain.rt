@@ -5,7 +5,7 @@ ghost use Rattle.wire.specs.Laying.{Lays};
 ghost use Rattle.fields.specs.Plain.{plain_sort, plain_row};
 
 use tables::dictionary::{Sort, sort_of};
-use tables::table::{Row, row_of};
+use tables::table::row_of;
 use wire::laying::{NotLaid, put_bytes};
 use wire::number::{put_u64, read_eight};
 use wire::text::{copy_fixed, copy_variable};
@@ -14,13 +14,11 @@ use wire::text::{copy_fixed, copy_variable};
 fn copy_front(d: &mut [u8], width: usize, s: &[u8]) -> Result<usize, NotLaid>
     ensures { Lays (take width s.now) d.old result d.new }
 {
-    if s.len() < width {
-        return put_bytes(d, s);
-    }
-    put_bytes(d, &s[..width])
+    put_bytes(d, &s[..width.min(s.len())])
 }
 
 // A field of this sort at the front of s, in plain form.
+#[tactic(auto, unfolding(crate::specs::Plain::plain_sort))]
 fn copy_sort(d: &mut [u8], sort: Sort, s: &[u8]) -> Result<usize, NotLaid>
     ensures { Lays (plain_sort sort s.now) d.old result d.new }
 {
@@ -35,14 +33,13 @@ fn copy_sort(d: &mut [u8], sort: Sort, s: &[u8]) -> Result<usize, NotLaid>
 }
 
 // The field at position p of a message of this type, by its name and the dictionary; nothing where no row names one.
+#[tactic(auto, unfolding(crate::specs::Plain::plain_row, tables::specs::Line::field_of))]
 fn copy_row(d: &mut [u8], messagetype: u8, p: usize, s: &[u8]) -> Result<usize, NotLaid>
     ensures { Lays (plain_row (row_of messagetype p) s.now) d.old result d.new }
 {
-    match row_of(messagetype, p) {
-        Row::Required(field) => copy_sort(d, sort_of(field), s),
-        Row::Optional(field) => copy_sort(d, sort_of(field), s),
-        Row::UnknownPosition => Ok(0),
-        Row::UnknownType => Ok(0),
+    match row_of(messagetype, p).field() {
+        Some(field) => copy_sort(d, sort_of(field), s),
+        None => Ok(0),
     }
 }
 

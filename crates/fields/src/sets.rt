@@ -1,46 +1,37 @@
 // The known and the required set of a message type, against a map. Both follow from the tables.
 ghost use Rattle.std.specs.Prelude.{◌≡◌, ◌<◌, ◌+◌, ◌*◌};
 ghost use Rattle.tables.specs.Tables.{row_of};
-ghost use Rattle.fields.specs.Sets.{unknown_to, missing_at, lowest_unknown, lowest_missing, is_row_of, position_of};
+ghost use Rattle.fields.specs.Sets.{unknown_at, missing_at, lowest_unknown, lowest_missing, is_row_of, position_of};
 
 use crate::words::{is_low, required_word, unknown_word, word_at};
 use tables::dictionary::{Field, row_number};
 use tables::table::{Row, row_of, span_of};
-use wire::map::{MAP_BYTES, MAP_POSITIONS, is_present, next_bit};
+use wire::map::{MAP_POSITIONS, is_present};
 
-// Whether the type does not know position p.
-fn is_unknown(messagetype: u8, p: usize) -> bool
-    ensures { result ≡ unknown_to (row_of messagetype) p }
+// Whether the map has position p and the type does not know it.
+#[tactic(auto, unfolding(crate::specs::Sets::unknown_at, crate::specs::Sets::unknown_to))]
+fn is_stray(messagetype: u8, map: &[u8], p: usize) -> bool
+    ensures { result ≡ unknown_at (row_of messagetype) map.now p }
 {
-    !row_of(messagetype, p).is_known()
+    is_present(map, p) && !row_of(messagetype, p).is_known()
 }
 
 // Whether the type requires position p and the map has it clear.
+#[tactic(auto, unfolding(crate::specs::Sets::missing_at))]
 fn is_missing(messagetype: u8, map: &[u8], p: usize) -> bool
     ensures { result ≡ missing_at (row_of messagetype) map.now p }
 {
-    if !row_of(messagetype, p).is_required() {
-        return false;
-    }
-    !is_present(map, p)
+    row_of(messagetype, p).is_required() && !is_present(map, p)
 }
 
-// The lowest set position that the type does not know, one by one. Only set positions are looked up.
+// The lowest set position that the type does not know, one by one.
 fn search_unknown(messagetype: u8, map: &[u8]) -> Option<usize>
     ensures { result ≡ lowest_unknown (row_of messagetype) map.now }
 {
-    let mut i: usize = 0;
-    while i < MAP_BYTES && i < map.len() {
-        let byte = map[i];
-        let mut j = next_bit(byte, 0);
-        while j < 8 {
-            let p = i * 8 + j as usize;
-            if is_unknown(messagetype, p) {
-                return Some(p);
-            }
-            j = next_bit(byte, j + 1);
+    for p in 0..MAP_POSITIONS {
+        if is_stray(messagetype, map, p) {
+            return Some(p);
         }
-        i += 1;
     }
     None
 }
@@ -62,13 +53,10 @@ pub fn lowest_unknown(messagetype: u8, map: &[u8]) -> Option<usize>
 fn search_missing(messagetype: u8, map: &[u8]) -> Option<usize>
     ensures { result ≡ lowest_missing (row_of messagetype) map.now }
 {
-    let span = span_of(messagetype);
-    let mut p: usize = 0;
-    while p < span {
+    for p in 0..span_of(messagetype) {
         if is_missing(messagetype, map, p) {
             return Some(p);
         }
-        p += 1;
     }
     None
 }
@@ -84,14 +72,13 @@ pub fn lowest_missing(messagetype: u8, map: &[u8]) -> Option<usize>
     None
 }
 
+#[tactic(auto, unfolding(crate::specs::Sets::is_row_of, tables::specs::Line::field_of))]
 fn is_row_of(field: Field, row: Row) -> bool
     ensures { result ≡ is_row_of field row }
 {
-    match row {
-        Row::Required(named) => row_number(field) == row_number(named),
-        Row::Optional(named) => row_number(field) == row_number(named),
-        Row::UnknownPosition => false,
-        Row::UnknownType => false,
+    match row.field() {
+        Some(named) => row_number(field) == row_number(named),
+        None => false,
     }
 }
 
@@ -100,12 +87,10 @@ pub fn position_of(messagetype: u8, field: Field) -> usize
     ensures { result ≡ position_of (row_of messagetype) field }
 {
     let span = span_of(messagetype);
-    let mut p = 0usize;
-    while p < span {
+    for p in 0..span {
         if is_row_of(field, row_of(messagetype, p)) {
             return p;
         }
-        p += 1;
     }
     MAP_POSITIONS
 }

@@ -33,6 +33,8 @@ pub(crate) fn unknown_word(messagetype: u8) -> u64
     }
 }
 
+// A match of its own beside that above: the two have the words alone in common, and each is held to its own set of the tables.
+//
 // The bits of the positions that the type requires, which all lie below 64; every bit where there is no such type.
 pub(crate) fn required_word(messagetype: u8) -> u64
     ensures { Holds (required_by (row_of messagetype)) result }

@@ -26,7 +26,7 @@ loop-q-preserved c =
     elim c.if-is_present.branch [
       | then-is_present w ↦
           seek-past (row_of a.messagetype) _ _ _ q rest h c.loop-q.invariant u (sym c.is_present-in-loop-q.ensures ∙ w.if-is_present.true) w.extent_at.result c.if-is_present.rest.now w.extent_at.ensures
-          (ap (λ x. x.now) w.rest-is ∙ w.behind-next.ensures)
+          (ap (λ x. x.now) w.rest-is ∙ w.behind-rest.ensures)
       | else-is_present w ↦
           subst (Seeking (row_of a.messagetype) _ _ _ (q + 1)) (sym (ap (λ x. x.now) w.rest-is))
           (seek-over (row_of a.messagetype) _ _ _ q rest h c.loop-q.invariant u (sym c.is_present-in-loop-q.ensures ∙ w.if-is_present.false))

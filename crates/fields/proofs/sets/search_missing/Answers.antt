@@ -8,7 +8,7 @@ loop-p-init c = none-below-zero _
 
 pub returns-then-is_missing : goal.returns-then-is_missing
 returns-then-is_missing c =
-    missing-hit _ _ c.loop-p.p (omega (arith, c.span_of-span.ensures)) (sym c.is_missing.ensures ∙ c.if-is_missing.true) c.loop-p.invariant
+    missing-hit _ _ c.loop-p.p (omega (arith, c.span_of-p-end.ensures)) (sym c.is_missing.ensures ∙ c.if-is_missing.true) c.loop-p.invariant
 
 pub loop-p-preserved : goal.loop-p-preserved
 loop-p-preserved c =
@@ -16,4 +16,4 @@ loop-p-preserved c =
 
 pub returns : goal.returns
 returns c =
-    missing-end _ _ c.loop-p.p (omega (arith, c.span_of-span.ensures)) c.loop-p.invariant
+    missing-end _ _ c.loop-p.p (omega (arith, c.span_of-p-end.ensures)) c.loop-p.invariant

@@ -1,5 +1,4 @@
 -- `fields::sets::search_missing` meets its contract: no position below p is missing, and none at or past the type's span.
-use Prim.Native.Nat.{◌-◌}
 use Rattle.tables.specs.Tables.{row_of}
 use Rattle.fields.specs.Sets.{missing_at}
 use Rattle.fields.proofs.SetsLaws.{NoneBelow}
@@ -7,6 +6,3 @@ use Rattle.fields.proofs.sets.search_missing.Given as goal
 
 abbrev pub invariant-loop-p : goal.invariant-loop-p
 invariant-loop-p l = NoneBelow (missing_at (row_of l.messagetype) l.map) l.p
-
-abbrev pub decreases-loop-p : goal.decreases-loop-p
-decreases-loop-p l = l.span - l.p

@@ -8,13 +8,13 @@ use Rattle.fields.proofs.PositionLaws.{later-none, next-of}
 use Rattle.fields.proofs.WalkLaws.{sum-within, walk-whole, walk-enter, walk-good, walk-bad, walk-leave, walk_end}
 use Rattle.fields.proofs.walk.walk.Goals as goal
 
-pub walk-init : goal.walk-init
-walk-init c =
-    (omega arith, omega arith, omega arith, walk-whole _ _ _)
+pub loop-i-init : goal.loop-i-init
+loop-i-init c =
+    (omega arith, walk-whole _ _ _)
 
 pub bounds-map-i : goal.bounds-map-i
 bounds-map-i c =
-    omega (arith, c.if-i-end.false, c.end_of-end.ensures.inside)
+    omega (arith, c.loop-i-test.true, c.end_of-end.ensures.inside)
 
 pub loop-j-init : goal.loop-j-init
 loop-j-init c =
@@ -22,8 +22,8 @@ loop-j-init c =
     let y = next-of _ 0 _ x in (
       y.within,
       y.set,
-      c.walk.invariant.2,
-      walk-enter (row_of _) _ 256 _ c.walk.i _ _ _ (omega arith) x c.walk.invariant.3,
+      c.loop-i.invariant.0,
+      walk-enter (row_of _) _ 256 _ c.loop-i.i _ _ _ (omega (arith, c.loop-i-test.true, c.end_of-end.ensures.within)) x c.loop-i.invariant.1,
     )
 
 pub slice_bounds-rest-count : goal.slice_bounds-rest-count
@@ -53,30 +53,26 @@ loop-j-preserved c =
       y.within,
       y.set,
       sum-within c.loop-j.rest.now _ _ _ _ g.0 g.1 c.loop-j.invariant.2,
-      walk-good (row_of _) _ 256 _ _ c.loop-j.j _ _ (omega arith) t (c.loop-j.invariant.1 t) c.loop-j.invariant.3 _ _ _ x e,
+      walk-good (row_of _) _ 256 _ _ c.loop-j.j _ _ (omega (arith, c.loop-i-test.true, c.end_of-end.ensures.within)) t (c.loop-j.invariant.1 t) c.loop-j.invariant.3 _ _ _ x e,
     )
 
-pub walk-smaller : goal.walk-smaller
-walk-smaller c = omega arith
-
-pub walk-preserved : goal.walk-preserved
-walk-preserved c =
+pub loop-i-preserved : goal.loop-i-preserved
+loop-i-preserved c =
     let j : c.loop-j.j ≡ 8 = omega (arith, c.loop-j.invariant.0, c.loop-j-test.false) in (
-      omega (arith, c.if-i-end.false, c.end_of-end.ensures.within),
-      omega (arith, c.if-i-end.false),
       c.loop-j.invariant.2,
       walk-leave (row_of _) _ 256 _ _ _ _ _ j c.loop-j.invariant.3,
     )
 
-pub returns-then-i-end : goal.returns-then-i-end
-returns-then-i-end c =
+pub returns : goal.returns
+returns c =
     let m = c.args.map.now in
-    let i = c.walk.i in
+    let i = c.loop-i.i in
+    let e : i ≡ c.end_of-end.result = omega (arith, c.loop-i-test.false) in
     walk_end (row_of _) _ 256 _ (i * 8) _ _
-    (later-none m (i * 8) (omega arith) (subst (λ (n : ℕ). ClearFrom (n * 8) m) (sym c.if-i-end.true) c.end_of-end.ensures.rest)) c.walk.invariant.3
+    (later-none m (i * 8) (omega (arith, c.end_of-end.ensures.within)) (subst (λ (n : ℕ). ClearFrom (n * 8) m) (sym e) c.end_of-end.ensures.rest)) c.loop-i.invariant.1
 
 pub returns-in-Err : goal.returns-in-Err
 returns-in-Err c =
     let t = c.loop-j-test.true in
-    walk-bad (row_of _) _ 256 _ _ c.loop-j.j _ _ (omega arith) t (c.loop-j.invariant.1 t) c.loop-j.invariant.3
+    walk-bad (row_of _) _ 256 _ _ c.loop-j.j _ _ (omega (arith, c.loop-i-test.true, c.end_of-end.ensures.within)) t (c.loop-j.invariant.1 t) c.loop-j.invariant.3
     _ (sym c.check_at.ensures ∙ c.in-Err.is)

@@ -16,13 +16,10 @@ invariant-loop-j l =
     (l.j ≤ 8) × (l.j < 8 → bit_at (get_or l.map l.i 0) l.j ≡ true) × (l.sum + length l.rest ≤ length l.body)
     × (walk_from (row_of l.messagetype) (later l.map 256 (l.i * 8 + l.j)) l.sum l.rest ≡ walk_of (row_of l.messagetype) l.map l.body)
 
-abbrev pub invariant-walk : goal.invariant-walk
-invariant-walk l =
-    (l.i ≤ 32) × (l.i ≤ l.end) × (l.sum + length l.rest ≤ length l.body)
+abbrev pub invariant-loop-i : goal.invariant-loop-i
+invariant-loop-i l =
+    (l.sum + length l.rest ≤ length l.body)
     × (walk_from (row_of l.messagetype) (later l.map 256 (l.i * 8)) l.sum l.rest ≡ walk_of (row_of l.messagetype) l.map l.body)
 
 abbrev pub decreases-loop-j : goal.decreases-loop-j
 decreases-loop-j l = 8 - l.j
-
-abbrev pub decreases-walk : goal.decreases-walk
-decreases-walk l = 32 - l.i
