@@ -4,15 +4,15 @@ use crate::complaint::{Complaint, Failure, Fault};
 use crate::{ROOM, Range, is_end, planned};
 use message::frame::{Header, body_in, comp_id_in, front_length, header_in, map_in};
 use message::read::{Reading, read};
+use message::refusal::Refusal;
 use plan::A_PAIR;
 use std::alloc::AllocError;
 use std::io::{BufRead, Read};
 use tables::table::{BUSINESS_MESSAGE_REJECT, EXECUTION_REPORT};
-use wire::laying::put_bytes;
 use wire::map::MAP_BYTES;
 use wire::text::LONGEST;
 use writer::send::put_gap_fill;
-use writer::write::{Written, write};
+use writer::write::write;
 
 // The most bytes of a list. No message is shorter than 58, so a list has at most 18,078 of them, fewer than are looked at.
 const LIST_BYTES: usize = 1048576;
@@ -27,7 +27,7 @@ fn is_business(messagetype: u8) -> bool {
 // The message at the front of s, which is number n of the list: whether it is business, and its length.
 fn look(list: &[u8], s: &[u8], n: usize) -> Result<(bool, usize), Fault> {
     match read(s) {
-        Reading::Good { header, length } => {
+        Ok(Reading { header, length }) => {
             if header.number as usize != n {
                 return Err(Fault::Bears(header.number));
             }
@@ -36,7 +36,7 @@ fn look(list: &[u8], s: &[u8], n: usize) -> Result<(bool, usize), Fault> {
             }
             Ok((is_business(header.messagetype), length))
         }
-        Reading::Refused(refusal) => Err(Fault::Refused(refusal.number())),
+        Err(refusal) => Err(Fault::Refused(refusal.number())),
     }
 }
 
@@ -62,14 +62,14 @@ fn mark_list(rt: &impl AllocGlobal, list: &[u8]) -> Result<Vec<u8>, Failure> {
 
 // The message at the front of s in plain form, with PossDup 1. It was read when the list was looked at, and is not read again: the writer makes its
 // own checks.
-fn put_again(d: &mut [u8], s: &[u8]) -> Written {
+fn put_again(d: &mut [u8], s: &[u8]) -> Result<usize, Refusal> {
     let header = Header {
         possdup: 1,
         ..header_in(s)
     };
-    let mut map = [0u8; MAP_BYTES];
-    let _ = put_bytes(&mut map, map_in(s));
-    write(d, header, comp_id_in(s), &map, body_in(front_length(s), s))
+    let none = [0u8; MAP_BYTES];
+    let map = map_in(s).first_chunk().unwrap_or(&none);
+    write(d, header, comp_id_in(s), map, body_in(front_length(s), s))
 }
 
 // One part of the plan, over the list from its first number on.
@@ -81,11 +81,11 @@ fn send_part(rt: &impl Print, s: &[u8], first: u32, new: u32) -> Result<(), Comp
         put_gap_fill(&mut d, comp_id_in(s), first, new)
     };
     match written {
-        Written::Wrote(n) => match rt.write_all(d.get(..n).unwrap_or(&d)) {
+        Ok(n) => match rt.write_all(d.get(..n).unwrap_or(&d)) {
             Ok(()) => Ok(()),
             Err(_) => Err(Complaint::Closed),
         },
-        Written::Refused(refusal) => Err(Complaint::Unwritten(refusal.number())),
+        Err(refusal) => Err(Complaint::Unwritten(refusal.number())),
     }
 }
 

@@ -5,6 +5,8 @@ use mathlib.Core.Path.{◌≡◌, refl, sym, ap, subst, ◌∙◌}
 use mathlib.Core.Bool.{Bool}
 use mathlib.Core.List.{List, []}
 use lib.ListN.{length}
+use Rattle.std.specs.Prelude.{Result}
+use Rattle.message.specs.declared.refusal.Refusal.{Refusal}
 use Rattle.message.specs.declared.read.Reading.{Reading}
 use Rattle.message.specs.Frame.{front_length}
 use Rattle.message.specs.Read.{read_of}
@@ -24,7 +26,7 @@ use Rattle.calls.specs.Steps.{row_at, sends_of, row_numbers, send_numbers, is_he
 use Rattle.calls.proofs.SlotLaws.{laid_none}
 
 -- what was read decides the step
-pub read_step : (s : Session) (left : List ℕ) (read : Reading) (x : Stepped) → read ≡ read_of left → x ≡ step_by s left read → x ≡ step s left
+pub read_step : (s : Session) (left : List ℕ) (read : Result Reading Refusal) (x : Stepped) → read ≡ read_of left → x ≡ step_by s left read → x ≡ step s left
 unfolding step
 read_step s left read x r e = e ∙ ap (step_by s left) r
 

@@ -203,13 +203,13 @@ fn is_fitting(at: usize, rows: usize, sends: usize, answer: Answer) -> bool
 }
 
 // What a step uses on the message at the front of s, which was read: no bytes where it met 1, 2 or 3, else the Length.
-fn used_by(reading: Reading, s: &[u8]) -> usize
+fn used_by(reading: Result<Reading, Refusal>, s: &[u8]) -> usize
     requires { reading ≡ read_of s.now }
     ensures { (result ≡ front_length s.now) × (result ≤ length s.now) × (result ≤ longest) }
 {
     match reading {
-        Reading::Good { header: _, length } => length,
-        Reading::Refused(refusal) => match refusal {
+        Ok(message) => message.length,
+        Err(refusal) => match refusal {
             Refusal::Short(_) | Refusal::BadStart | Refusal::BadLength => 0,
             _ => front_length(s),
         },
@@ -256,7 +256,7 @@ fn short_of(code: Option<Fault>) -> Option<usize>
 fn turn(
     session: Session,
     s: &[u8],
-    reading: Reading,
+    reading: Result<Reading, Refusal>,
     at: usize,
     rows: &mut [u32],
     sends: &mut [u32],

@@ -15,8 +15,8 @@ use Rattle.wire.specs.Number.{Bytes, number}
 use Rattle.wire.proofs.NumberLaws.{bytes_drop, number-take}
 use Rattle.wire.proofs.TestLaws.{either}
 use Rattle.fields.specs.Value.{value_of}
+use Rattle.message.specs.Read as reading
 use Rattle.message.specs.declared.frame.Header.{Header}
-use Rattle.message.specs.declared.read.Reading.TheVariants as reading
 use Rattle.message.specs.Frame.{header_in, map_in, body_in}
 use Rattle.message.specs.Read.{read_of}
 use Rattle.message.specs.Refusal.{number_of, short, bad_sum}

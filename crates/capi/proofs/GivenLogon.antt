@@ -8,7 +8,7 @@ use mathlib.Core.Logic.{◌⊎◌}
 use native.Mathlib.Omega.{arith}
 use lib.Dec.{eqb}
 use lib.ListN.{length}
-use Rattle.std.specs.Prelude.{Some, None}
+use Rattle.std.specs.Prelude.{Ok, Some, None}
 use Rattle.wire.specs.declared.text.Allowed.TheVariants.{Ascii}
 use Rattle.wire.specs.Text.{fixed_part}
 use Rattle.wire.proofs.TestLaws.{either}
@@ -24,7 +24,6 @@ use Rattle.session.specs.declared.state.State.TheVariants.{Down, Waiting, Live}
 use Rattle.session.specs.Day.{not_connected, connect_in, connect}
 use Rattle.session.specs.Held.{state_at}
 use Rattle.session.specs.State.{last, halt_number, code_number, moved}
-use Rattle.writer.specs.declared.write.Written.TheVariants.{Wrote}
 use Rattle.writer.specs.Send.{logon, logon_of, logon_sent}
 use Rattle.writer.proofs.SizeLaws.{logon-written}
 use Rattle.capi.specs.declared.shape.CConnected.{CConnected}
@@ -55,7 +54,7 @@ connect-in-good Down s password =
     (λ t. either P _ {y = not_connected s (Some (Refused (BadField 0)))}
     (λ u z. record {
       laid = λ n next comp_id d h g.
-          let w : (y : List ℕ) → 512 ≤ length y → logon_of n password next comp_id y ≡ Wrote 512 = λ y r. logon-written n h comp_id g y password next u r in
+          let w : (y : List ℕ) → 512 ≤ length y → logon_of n password next comp_id y ≡ Ok 512 = λ y r. logon-written n h comp_id g y password next u r in
           rw u (sent-by-room (logon n password next) comp_id logon_size (λ y r. rw u at (w y r)) d);
       told = refl;
     })

@@ -10,12 +10,13 @@ use native.Mathlib.Omega.{arith}
 use lib.Dec.{eqb, leb, ltb}
 use lib.ListN.{length, get_or, replicate, length-replicate}
 use borrow.Author.Tests.{le-leb, lt-ltb, eq-eqb, leb-true, ltb-true, eqb-true}
+use Rattle.std.specs.Prelude.{Result, Ok, Err}
 use Rattle.wire.specs.declared.text.Allowed.TheVariants.{Ascii}
 use Rattle.wire.specs.Number.{Bytes}
 use Rattle.wire.specs.Text.{fixed_part}
 use Rattle.wire.proofs.TestLaws.{and-true, both, either}
+use Rattle.message.specs.declared.refusal.Refusal.{Refusal}
 use Rattle.message.specs.declared.refusal.Refusal.TheVariants.{NoRoom}
-use Rattle.message.specs.declared.vet.Vetted.{Vetted}
 use Rattle.message.specs.Refusal.{number_of, besides_of}
 use Rattle.message.specs.Vet.{good_comp_id}
 use Rattle.session.specs.declared.state.Send.{Send}
@@ -26,7 +27,6 @@ use Rattle.calls.specs.Steps.{called}
 use Rattle.line.specs.Tick.{id_of}
 use Rattle.capi.proofs.GivenCalls.{call-gives}
 use Rattle.capi.proofs.GivenLaws.{Given, nothing, heartbeat, logout, gap-fill, resend-request, step_gives}
-use Rattle.writer.specs.declared.write.Written.TheVariants.{Wrote, Refused}
 use Rattle.writer.specs.Send.{Outgoing, send_of}
 use Rattle.writer.specs.Write.{write_length, write_vetted, write_of}
 use Rattle.writer.proofs.GoodLaws.{WroteGood, wrote-good}
@@ -143,14 +143,14 @@ unfolding by_room
 room-takes n room h = rw (le-leb n room h)
 
 -- what the writer lays down wherever there is room for n bytes
-module _ (x : Outgoing) (comp_id : List ℕ) (n : ℕ) (w : (z : List ℕ) → n ≤ length z → send_of x comp_id z ≡ Wrote n) where
+module _ (x : Outgoing) (comp_id : List ℕ) (n : ℕ) (w : (z : List ℕ) → n ≤ length z → send_of x comp_id z ≡ Ok n) where
   lengthy : WroteGood x.head comp_id x.map x.body n
   unfolding send_of
   lengthy =
       let z : List ℕ = replicate n 0 in
       wrote-good x.head comp_id x.map x.body z n (w z (le_of_eq (sym (length-replicate n 0))))
 
-  shown : (b : Bool) → shown_written (cond b (Wrote n) (Refused (NoRoom n))) ≡ cond b (wrote 0 0 n) (wrote (number_of (NoRoom n)) n 0)
+  shown : (b : Bool) → shown_written (cond b (Ok n) (Err (NoRoom n))) ≡ cond b (wrote 0 0 n) (wrote (number_of (NoRoom n)) n 0)
   unfolding shown_written besides_of
   shown true = refl
   shown false = refl
@@ -159,7 +159,7 @@ module _ (x : Outgoing) (comp_id : List ℕ) (n : ℕ) (w : (z : List ℕ) → n
   unfolding send_of write_of write_vetted write_length by_room
   sent-by-room d =
       let g = lengthy in
-      ap (λ (v : Vetted). shown_written (write_vetted (length d) v)) g.good
+      ap (λ (v : Result ℕ Refusal). shown_written (write_vetted (length d) v)) g.good
       ∙ ap (λ (k : ℕ). shown_written (write_length k (length d))) (sym g.size)
       ∙ shown (leb n (length d))
 
@@ -182,7 +182,7 @@ module _ (c : CSession) (h : is_session c ≡ true) where
   abbrev comp_id : List ℕ
   comp_id = fixed_part Ascii 12 c.ours
 
-  sent-as : (x : CSend) → is_send x ≡ true → eqb x.kind 0 ≡ false → (n : ℕ) → ((z : List ℕ) → n ≤ length z → send_of (outgoing_of x) comp_id z ≡ Wrote n)
+  sent-as : (x : CSend) → is_send x ≡ true → eqb x.kind 0 ≡ false → (n : ℕ) → ((z : List ℕ) → n ≤ length z → send_of (outgoing_of x) comp_id z ≡ Ok n)
       → (d : List ℕ) → send_c c x d ≡ by_room n (length d)
   unfolding send_c send_by
   sent-as x i k n w d = rw (h, i, k) (sent-by-room (outgoing_of x) comp_id n w d)

@@ -2,6 +2,8 @@
 use mathlib.Core.Path.{◌≡◌, ap, ap₂, ◌∙◌}
 use mathlib.Core.List.{List}
 use Prim.Native.Nat.{ℕ, ◌<◌}
+use Rattle.std.specs.Prelude.{Result}
+use Rattle.message.specs.declared.refusal.Refusal.{Refusal}
 use Rattle.message.specs.declared.read.Reading.{Reading}
 use Rattle.message.specs.Frame.{front_length}
 use Rattle.message.specs.Read.{read_of}
@@ -22,7 +24,7 @@ pub live-used : (c : CSession) → c.state ≡ 2 → (s : List ℕ) → front_le
 unfolding used_by
 live-used c e s = simp e
 
-module _ (c : CSession) (s : List ℕ) (read : Reading) (r : read ≡ read_of s) where
+module _ (c : CSession) (s : List ℕ) (read : Result Reading Refusal) (r : read ≡ read_of s) where
   pub live-took : (t : Session) (d : Due) → t ≡ session_in c → d ≡ take_due t s read → (d.length ≡ 0 → ⊥) → Took (session_in c) s d
   live-took t d p q some = due-step (session_in c) s read d r (q ∙ ap (λ (x : Session). take_due x s read) p) some
 
@@ -33,9 +35,9 @@ module _ (c : CSession) (s : List ℕ) (read : Reading) (r : read ≡ read_of s)
 
   pub live-ruled : (t : Session) (x : Stepped) → t ≡ session_in c → x ≡ step_by t s read → x ≡ step (session_in c) s
   unfolding step
-  live-ruled t x p u = u ∙ ap₂ (λ (y : Session) (z : Reading). step_by y s z) p r
+  live-ruled t x p u = u ∙ ap₂ (λ (y : Session) (z : Result Reading Refusal). step_by y s z) p r
 
-pub line-ruled : (l : Line) (t : ℕ) (s : List ℕ) (read : Reading) (x : LineStepped) → read ≡ read_of s
+pub line-ruled : (l : Line) (t : ℕ) (s : List ℕ) (read : Result Reading Refusal) (x : LineStepped) → read ≡ read_of s
     → x ≡ stepped_line l t (step_by l.session s read) → x ≡ step_line l t s
 unfolding step_line step
-line-ruled l t s read x r u = u ∙ ap (λ (z : Reading). stepped_line l t (step_by l.session s z)) r
+line-ruled l t s read x r u = u ∙ ap (λ (z : Result Reading Refusal). stepped_line l t (step_by l.session s z)) r

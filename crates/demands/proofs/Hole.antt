@@ -13,8 +13,8 @@ use mathlib.Core.Logic.{inr}
 use native.Mathlib.Omega.{arith}
 use lib.Dec.{eqb, leb, ltb}
 use borrow.Author.Tests.{le-ltb, lt-ltb, eq-eqb, ne_eqb, leb-true, leb-false, eqb-true, eqb-false}
+use Rattle.std.specs.Prelude.{Err}
 use Rattle.wire.proofs.TestLaws.{either}
-use Rattle.message.specs.declared.read.Reading.TheVariants.{Refused}
 use Rattle.message.specs.declared.refusal.Refusal.{Refusal}
 use Rattle.message.specs.Read.{read_of}
 use Rattle.message.specs.Refusal.{number_of, bad_sum}
@@ -124,7 +124,7 @@ past-answered s b h m p =
     subst (Answers s p.content) (sym (e ∙ q)) (live-answers s m n p.content p.ahead p.numbered)
 
 -- with M standing and a copy spoiled, what the next message past the hole is answered
-pub hole-answered : {s : Session} → Reached s → 1 ≤ s.ahead → (spoiled b : List ℕ) (r : Refusal) → read_of spoiled ≡ Refused r → number_of r ≡ bad_sum
+pub hole-answered : {s : Session} → Reached s → 1 ≤ s.ahead → (spoiled b : List ℕ) (r : Refusal) → read_of spoiled ≡ Err r → number_of r ≡ bad_sum
     → (p : Past s.ours s.expected b) → Answers s p.content (step (step s spoiled).session b)
 hole-answered {s = s} g m spoiled b r e k p =
     let h = (all_sound g).ahead in

@@ -18,9 +18,8 @@ use lib.Seq.{take-length, get_or-drop, drop-drop}
 use borrow.Author.Tests.{lt-ltb, le-ltb, eqb-true, eqb-false, leb-true, leb-false}
 use Rattle.tables.specs.Types.{lookup_response_type, business_message_reject_type, execution_report_type}
 use Rattle.message.specs.declared.frame.Header.{Header}
-use Rattle.message.specs.declared.read.Reading.TheVariants.{Good}
 use Rattle.message.specs.Frame.{map_in, body_in}
-use Rattle.message.specs.Read.{read_of}
+use Rattle.message.specs.Read.{Good, read_of}
 use Rattle.plan.specs.Plan.{Part, business, gap_fill, session, parts_from, last_number, parts_of}
 use Rattle.plan.proofs.PlanShape.{Follows, none as end, one, fill as fills, fill-then, follows-up, parts-follow}
 use Rattle.session.specs.declared.arrival.Content.TheVariants.{Business}

@@ -6,11 +6,11 @@ use mathlib.Core.List.{List, [], ◌∷◌, ◌++◌}
 use native.Mathlib.Omega.{arith}
 use lib.ListN.{length, take}
 use lib.Seq.{take-length}
+use Rattle.std.specs.Prelude.{Err}
 use Rattle.message.specs.declared.frame.Header.{Header}
-use Rattle.message.specs.declared.read.Reading.TheVariants.{Good, Refused}
 use Rattle.message.specs.declared.refusal.Refusal.TheVariants.{Short}
 use Rattle.message.specs.Frame.{comp_id_in, map_in, body_in, front_length}
-use Rattle.message.specs.Read.{read_of}
+use Rattle.message.specs.Read.{Good, read_of}
 use Rattle.message.proofs.FrameLaws.{own-comp-id, own-map, own_body}
 use Rattle.message.proofs.ReadLaws.{WholeAt, read-front, read-own}
 use Rattle.session.specs.Arrival.{arrival_of}
@@ -59,7 +59,7 @@ module _ (b r : List ℕ) (h : Header) (n : ℕ) (e : read_of b ≡ Good h n) (w
   own-whole : take n b ≡ b
   own-whole = ap (λ (k : ℕ). take k b) (sym (front-good b h n e) ∙ w) ∙ take-length b
 
-  long : (k : ℕ) → read_of b ≡ Refused (Short k) → ⊥
+  long : (k : ℕ) → read_of b ≡ Err (Short k) → ⊥
   long k f = let z : ◌≡◌ {A = ℕ} 0 1 = cc in omega arith
 
   pub more-step : (x : Session) → step x (b ++ r) ≡ step x b

@@ -10,6 +10,7 @@ use lib.Dec.{eqb, leb}
 use lib.ListN.{length, get_or, drop, take, replicate, length-map, length-drop}
 use lib.Seq.{take-length}
 use borrow.Author.Tests.{ne_eqb, eqb-false, le-leb}
+use Rattle.std.specs.Prelude.{Result, Ok, Err}
 use Rattle.tables.specs.declared.dictionary.Field.{Field}
 use Rattle.tables.specs.declared.dictionary.Field.TheVariants.{GapFill as GapFillField, NewSequenceNumber}
 use Rattle.tables.specs.Line.{row_at}
@@ -32,16 +33,14 @@ use Rattle.fields.specs.declared.value.Value.TheVariants.{Number}
 use Rattle.fields.specs.Cut.{positions, extent, extent_of, cut_at, cut, bytes_at}
 use Rattle.fields.specs.Sets.{is_row_of, stands_at, position_of}
 use Rattle.fields.specs.Value.{number_value, sort_value, field_value, row_value, value_in, value_at, text_at, value_of}
+use Rattle.message.specs.declared.refusal.Refusal.{Refusal}
 use Rattle.message.specs.declared.frame.Header.{Header}
 use Rattle.message.specs.declared.refusal.Refusal.TheVariants.{UnknownType, BadHeader}
-use Rattle.message.specs.declared.vet.Vetted.{Vetted}
-use Rattle.message.specs.declared.vet.Vetted.TheVariants as vetted
 use Rattle.message.specs.Frame.{comp_id_bytes, comp_id_in, map_in, body_in}
 use Rattle.message.specs.Vet.{good_comp_id, good_header, vet_fields, vet}
 use Rattle.message.proofs.VetLaws.{good-vetted}
 use Rattle.writer.specs.Says.{Says}
 use Rattle.writer.specs.Send.{Outgoing, map_with, send_of, sent, gap_fill as fill_of}
-use Rattle.writer.specs.declared.write.Written.{Written}
 use Rattle.writer.specs.Plain.{plain_message}
 use Rattle.writer.specs.Write.{written}
 use Rattle.writer.proofs.GoodLaws.{wrote-good, wrote-plain}
@@ -100,7 +99,7 @@ writer-plain : {comp_id : List ℕ} {n : ℕ} {x : Outgoing} (d : List ℕ) → 
 unfolding bytes_of reported send_of sent
 writer-plain {comp_id = comp_id} {x = x} d w r =
     let e = room-enough x.head comp_id x.map x.body d w.plain w.good r in
-    ap (λ (z : Written). reported z (written x.head comp_id x.map x.body d)) e
+    ap (λ (z : Result ℕ Refusal). reported z (written x.head comp_id x.map x.body d)) e
     ∙ wrote-plain x.head comp_id x.map x.body d (frame_bytes + w.plain) e w.map-size
 
 -- the fields of two bodies that have the same values and texts
@@ -152,11 +151,11 @@ again-writable {comp_id = comp_id} {x = x} w =
       numbered = w.numbered;
       map-size = w.map-size;
       plain = w.plain;
-      good = rw (again-header x comp_id g) (subst (λ (t : Bool). vet_in x t ≡ vetted.Good w.plain) g w.good);
+      good = rw (again-header x comp_id g) (subst (λ (t : Bool). vet_in x t ≡ Ok w.plain) g w.good);
     }
   where
-    vet_in : Outgoing → Bool → Vetted
-    vet_in x t = cond (is_type x.head.messagetype) (cond t (vet_fields (row_of x.head.messagetype) x.map x.body) (vetted.Refused BadHeader)) (vetted.Refused UnknownType)
+    vet_in : Outgoing → Bool → Result ℕ Refusal
+    vet_in x t = cond (is_type x.head.messagetype) (cond t (vet_fields (row_of x.head.messagetype) x.map x.body) (Err BadHeader)) (Err UnknownType)
 
 -- ---- the gateway's gap fill
 

@@ -14,9 +14,9 @@ use native.Mathlib.Omega.{arith}
 use lib.Dec.{eqb}
 use lib.ListN.{length, take, drop}
 use lib.Seq.{drop-drop}
-use Rattle.std.specs.Prelude.{Option, Some, None}
+use Rattle.std.specs.Prelude.{Result, Ok, Err, Option, Some, None}
+use Rattle.message.specs.declared.refusal.Refusal.{Refusal}
 use Rattle.message.specs.declared.read.Reading.{Reading}
-use Rattle.message.specs.declared.read.Reading.TheVariants as reading
 use Rattle.message.specs.Frame.{front_length}
 use Rattle.message.specs.Read.{read_of}
 use Rattle.session.specs.declared.state.Fault.{Fault}
@@ -49,9 +49,9 @@ pub record Lent (s : Session) (b : List ℕ) (t : Session) (up : List Content) :
 no_front : (L : List Content) (b : List ℕ) → front_length b ≡ 0 → Fair L (lends b)
 no_front L b z = go (read_of b) refl
   where
-    go : (x : Reading) → read_of b ≡ x → Fair L (lends b)
-    go (reading.Good h n) e = absurd (omega (arith, front-good b h n e, good-least b h n e))
-    go (reading.Refused r) e = refused e
+    go : (x : Result Reading Refusal) → read_of b ≡ x → Fair L (lends b)
+    go (Ok x) e = absurd (omega (arith, front-good b x.header x.length e, good-least b x.header x.length e))
+    go (Err r) e = refused e
 
 -- so the front of a fair slice is fair, and so is the rest
 front-fair : (L : List Content) {b : List ℕ} → FairSlice L b → Fair L (lends b)

@@ -6,6 +6,7 @@ use mathlib.Core.List.{List, [], ◌∷◌, ◌++◌}
 use native.Mathlib.Omega.{arith}
 use lib.IntN.{pos}
 use lib.ListN.{length, get_or, replicate, length-append, get_or-append}
+use Rattle.std.specs.Prelude.{Err}
 use Rattle.crc.specs.Crc.{bits, number_of_bits, message_bits, polynomial, differ, less, divided, complemented, crc32c}
 use Rattle.wire.specs.Number.{number, number_bytes}
 use Rattle.wire.specs.Decimal.{signed, unsigned, decimal, decimal_bytes}
@@ -32,7 +33,6 @@ use Rattle.fields.specs.Check.{whole, yes_no, fixed_taken, fixed, check_sort, ch
 use Rattle.fields.specs.Cut.{positions, extent, extent_of, cut_at, cut, bytes_at}
 use Rattle.fields.specs.Walk.{onward, walk_through, walk_of}
 use Rattle.fields.specs.Value.{number_value, decimal_value, text_value, sort_value, sort_text, field_value, field_text, row_value, row_text, value_in, text_in, value_at, text_at, value_of}
-use Rattle.message.specs.declared.read.Reading.TheVariants.{Refused}
 use Rattle.message.specs.declared.refusal.Refusal.TheVariants.{BadSum}
 use Rattle.message.specs.Frame.{part_in, length_in, header_in, comp_id_in, map_in, body_in, sum_in, framed_by, framed}
 use Rattle.message.specs.Vet.{good_comp_id, good_header, vet_walk, vet_place, vet_sets, vet_fields, vet}
@@ -216,7 +216,7 @@ pub record WorkedOn : Type 0 where
   pub standing : after_all (fresh ours).session day_before ≡ asking
   pub run : Run (fixed_bytes 12 ours) 8 answer_run 11
   pub copies : AllFair published_on (lend_all answer_run)
-  pub spoiled : read_of (report_bytes 8 1 0xC2A22CAC) ≡ Refused (BadSum 179)
+  pub spoiled : read_of (report_bytes 8 1 0xC2A22CAC) ≡ Err (BadSum 179)
   pub nine : Past (fixed_bytes 12 ours) 8 (fill_bytes 9 10 0x299436A6)
   pub hole : Many (fixed_bytes 12 ours) 8 3 hole_run
   pub stopped : after_all (fresh ours).session (day_before ++ lend_all hole_run)

@@ -1,9 +1,8 @@
 -- Document 02, item 12: gap fills that a session takes one after the other.
 use Rattle.std.specs.Prelude.{ℕ, ◌≡◌, true, List}
 use Rattle.message.specs.declared.frame.Header.{Header}
-use Rattle.message.specs.declared.read.Reading.TheVariants.{Good}
 use Rattle.message.specs.Frame.{map_in, body_in}
-use Rattle.message.specs.Read.{read_of}
+use Rattle.message.specs.Read.{Good, read_of}
 use Rattle.session.specs.declared.arrival.Content.TheVariants.{GapFill}
 use Rattle.session.specs.Arrival.{content_of, is_ours}
 

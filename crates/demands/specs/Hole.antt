@@ -1,9 +1,8 @@
 -- Document 02, item 3: a hole in the answer. M stands, the copy at E was spoiled, and the gateway's answer goes on past it.
 use Rattle.std.specs.Prelude.{ℕ, ◌+◌, ◌<◌, ◌≤◌, ◌≡◌, Bool, true, false, List, [], ◌∷◌}
 use Rattle.message.specs.declared.frame.Header.{Header}
-use Rattle.message.specs.declared.read.Reading.TheVariants.{Good}
 use Rattle.message.specs.Frame.{map_in, body_in}
-use Rattle.message.specs.Read.{read_of}
+use Rattle.message.specs.Read.{Good, read_of}
 use Rattle.session.specs.declared.arrival.Content.{Content}
 use Rattle.session.specs.declared.arrival.Content.TheVariants.{
   Heartbeat,

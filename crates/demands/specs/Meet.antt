@@ -1,13 +1,10 @@
 -- Document 02, item 14: both ends meet. The gateway's list, the bench's plan of it, and the plan's parts sent.
-use Rattle.std.specs.Prelude.{ℕ, ◌+◌, ◌-◌, ◌<◌, ◌≡◌, true, cond, List, [], ◌∷◌, map, eqb, leb, length, get_or, take, drop}
+use Rattle.std.specs.Prelude.{ℕ, ◌+◌, ◌-◌, ◌<◌, ◌≡◌, true, cond, List, [], ◌∷◌, map, eqb, leb, length, get_or, take, drop, Result, Ok, Err}
 use Rattle.wire.specs.Map.{map_bytes}
+use Rattle.message.specs.declared.refusal.Refusal.{Refusal}
 use Rattle.message.specs.declared.frame.Header.{Header}
-use Rattle.message.specs.declared.read.Reading.TheVariants.{Good}
-use Rattle.message.specs.declared.vet.Vetted.TheVariants as vetted
-use Rattle.message.specs.Read.{read_of}
+use Rattle.message.specs.Read.{Good, read_of}
 use Rattle.message.specs.Vet.{vet}
-use Rattle.writer.specs.declared.write.Written.{Written}
-use Rattle.writer.specs.declared.write.Written.TheVariants.{Wrote, Refused}
 use Rattle.writer.specs.Send.{Outgoing, send_of, sent, gap_fill as fill_of}
 use Rattle.plan.specs.Plan.{Part, business, gap_fill, parts_of}
 use Rattle.session.specs.declared.state.Session.{Session}
@@ -56,7 +53,7 @@ pub record Writable (comp_id : List ℕ) (n : ℕ) (x : Outgoing) : Type 0 where
   pub numbered : x.head.number ≡ n
   pub map-size : length x.map ≡ map_bytes
   pub plain : ℕ
-  pub good : vet x.head comp_id x.map x.body ≡ vetted.Good plain
+  pub good : vet x.head comp_id x.map x.body ≡ Ok plain
 
 -- a list of such messages, with the numbers from n on
 pub data AllWritable (comp_id : List ℕ) : ℕ → List Outgoing → Type 0 where
@@ -68,9 +65,9 @@ unfoldable pub says_of : List ℕ → Outgoing → Content
 says_of comp_id x = saying x.head.messagetype x.head.number comp_id x.map x.body
 
 -- the bytes that `write` reports and leaves at the front of a buffer; none where it refuses
-unfoldable pub reported : Written → List ℕ → List ℕ
-reported (Wrote n) d = take n d
-reported (Refused r) d = []
+unfoldable pub reported : Result ℕ Refusal → List ℕ → List ℕ
+reported (Ok n) d = take n d
+reported (Err r) d = []
 
 -- those of such a message, written into the buffer d
 unfoldable pub bytes_of : List ℕ → List ℕ → Outgoing → List ℕ

@@ -4,6 +4,8 @@ use mathlib.Core.Bool.{true, false}
 use mathlib.Core.List.{List}
 use Prim.Native.Nat.{ℕ, ◌+◌}
 use borrow.Author.Tests.{ne_eqb}
+use Rattle.std.specs.Prelude.{Result}
+use Rattle.message.specs.declared.refusal.Refusal.{Refusal}
 use Rattle.message.specs.declared.read.Reading.{Reading}
 use Rattle.message.specs.Frame.{front_length}
 use Rattle.message.specs.Read.{read_of}
@@ -31,7 +33,7 @@ taken-line : (l : Line) (t : ℕ)
 unfolding take is_heard is_any code_number told
 taken-line l t = refl
 
-pub due-line : (l : Line) (t : ℕ) (left : List ℕ) (read : Reading) (d : LineDue) → read ≡ read_of left → d ≡ take_due_line l t left read
+pub due-line : (l : Line) (t : ℕ) (left : List ℕ) (read : Result Reading Refusal) (d : LineDue) → read ≡ read_of left → d ≡ take_due_line l t left read
     → (d.length ≡ 0 → ⊥) → TookLine l t left d
 unfolding take_due_line step_line
 due-line l t left read d r e some =

@@ -6,6 +6,7 @@ ghost use Rattle.line.specs.Line.{is_interval, line_number, quiet_line, not_a_li
 
 use calls::{Done, Ended, is_heard, steps};
 use message::read::Reading;
+use message::refusal::Refusal;
 use session::day::Made;
 use session::state::{Answer, Fault, Halt, Send, Session, State, Stepped, code_number};
 
@@ -338,14 +339,14 @@ impl Line {
     }
 
     // One step at time t on the message at the front of s, of which the reader has given this.
-    pub fn step_by(self, t: u64, s: &[u8], reading: Reading) -> LineStepped
+    pub fn step_by(self, t: u64, s: &[u8], reading: Result<Reading, Refusal>) -> LineStepped
         ensures { result ≡ stepped_line self t (step_by self.session s.now reading) }
     {
         self.stepped(t, self.session.step_by(s, reading))
     }
 
     // What was read at the front of s is taken at time t, where it is business in its turn. A step would do no more.
-    pub fn take_due(self, t: u64, s: &[u8], reading: Reading) -> LineDue
+    pub fn take_due(self, t: u64, s: &[u8], reading: Result<Reading, Refusal>) -> LineDue
         ensures { result ≡ take_due_line self t s.now reading }
     {
         let was = self.session;

@@ -13,11 +13,10 @@ use Rattle.fields.specs.Cut.{positions, extent_of, Piece, cut_at, cut, bytes_at}
 use Rattle.fields.specs.Value.{value_in, value_at}
 use Rattle.fields.proofs.CutLaws.{bytes-here, bytes_past}
 use Rattle.message.specs.declared.frame.Header.{Header}
-use Rattle.message.specs.declared.read.Reading.TheVariants as read
 use Rattle.message.specs.Ask.{number_answer, text_answer, asked, ask_number, ask_text, start_by}
 use Rattle.message.specs.Frame.{map_in, body_in}
 use Rattle.message.specs.List.{five, five_of, list_of, list_by}
-use Rattle.message.specs.Read.{read_of}
+use Rattle.message.specs.Read.{Good, read_of}
 
 module _ (rows : ℕ → Row) (w : ℕ) (m : List ℕ) (f g : ℕ → List ℕ) where
   -- the five numbers at each of these positions
@@ -49,7 +48,7 @@ module _ (rows : ℕ → Row) (w : ℕ) (m : List ℕ) (f g : ℕ → List ℕ) 
         by-step (present m k) n k s l refl agree (λ s agree. by-positions n (suc k) s (omega arith) agree)
 
 -- of a message that is read
-module _ (s : List ℕ) (h : Header) (n : ℕ) (e : read_of s ≡ read.Good h n) where
+module _ (s : List ℕ) (h : Header) (n : ℕ) (e : read_of s ≡ Good h n) where
   here : ℕ → List ℕ
   here p = bytes_at p (cut (row_of h.messagetype) (map_in s) (body_in n s))
 

@@ -15,6 +15,7 @@ use lib.Seq.{length-take-le}
 use borrow.Author.Tests.{leb-true, le-leb, lt-leb}
 use mir.Syntax.{w64}
 use mir.Val.{Fits}
+use Rattle.std.specs.Prelude.{Ok, Err}
 use Rattle.tables.specs.declared.dictionary.Sort.{Sort}
 use Rattle.tables.specs.declared.dictionary.Sort.TheVariants as sort
 use Rattle.tables.specs.declared.table.Row.{Row}
@@ -52,12 +53,10 @@ use Rattle.wire.proofs.TestLaws.{rest_of}
 use Rattle.fields.proofs.WalkLaws.{walk_from, First, walk_first, walk-whole}
 use Rattle.message.specs.Ask.{lead_of, row_lead, text_start}
 use Rattle.message.specs.declared.frame.Header.{Header}
-use Rattle.message.specs.declared.list.Listed.TheVariants.{Good, Refused}
-use Rattle.message.specs.declared.read.Reading.TheVariants as read
 use Rattle.message.specs.declared.refusal.Refusal.{Refusal}
 use Rattle.message.specs.declared.refusal.Refusal.TheVariants.{NoRoom}
 use Rattle.message.specs.Frame.{map_in, body_in}
-use Rattle.message.specs.Read.{read_of}
+use Rattle.message.specs.Read.{Good, read_of}
 use Rattle.message.specs.List.{five, five_of, list_of, list_by, listed_by, list_fields}
 use Rattle.message.proofs.FrameLaws.{part-there, part-within}
 use Rattle.message.proofs.ReadLaws.{read-front, good-fields}
@@ -358,7 +357,7 @@ pub record Entered (s : List ℕ) (h : Header) (whole : ℕ) (m body : List ℕ)
   pub plain : ℕ
   pub good : GoodFields h.messagetype m body plain
 
-pub enter : (s : List ℕ) (h : Header) (whole : ℕ) → read_of s ≡ read.Good h whole → Entered s h whole (map_in s) (body_in whole s)
+pub enter : (s : List ℕ) (h : Header) (whole : ℕ) → read_of s ≡ Good h whole → Entered s h whole (map_in s) (body_in whole s)
 unfolding list_by map_in body_in
 enter s h whole e =
     let w = (read-front s h whole e).0 in
@@ -373,7 +372,7 @@ enter s h whole e =
     }
 
 -- the answer of a message that was read
-module _ (s d : List ℕ) (h : Header) (whole : ℕ) (e : read_of s ≡ read.Good h whole) where
+module _ (s d : List ℕ) (h : Header) (whole : ℕ) (e : read_of s ≡ Good h whole) where
   pub list-need : length (list_by s (read_of s)) ≡ 5 * length (positions (map_in s) 64 0)
   unfolding cut
   list-need =
@@ -386,22 +385,22 @@ module _ (s d : List ℕ) (h : Header) (whole : ℕ) (e : read_of s ≡ read.Goo
   pub list-most : length (list_by s (read_of s)) ≤ 320
   list-most = omega (arith, list-need, positions-count (map_in s) 64 0)
 
-  pub list-no-room : (need : ℕ) → need ≡ length (list_by s (read_of s)) → length d < need → (Refused (NoRoom need) ≡ list_fields s d) × (d ≡ laid (list_by s (read_of s)) d)
+  pub list-no-room : (need : ℕ) → need ≡ length (list_by s (read_of s)) → length d < need → (Err (NoRoom need) ≡ list_fields s d) × (d ≡ laid (list_by s (read_of s)) d)
   unfolding list_fields listed_by laid
   list-no-room need q l =
       let n = length (list_by s (read_of s)) in
       let f : leb n (length d) ≡ false = lt-leb n (length d) (omega arith) in (
-        ap (λ (k : ℕ). Refused (NoRoom k)) q ∙ sym (ap (listed_by n (length d)) e ∙ ap (λ (b : Bool). cond b (Good h whole (n / 5)) (Refused (NoRoom n))) f),
+        ap (λ (k : ℕ). Err (NoRoom k)) q ∙ sym (ap (listed_by n (length d)) e ∙ ap (λ (b : Bool). cond b (Ok (record { header = h; length = whole; fields = n / 5 })) (Err (NoRoom n))) f),
         sym (ap (λ (b : Bool). cond b (list_by s (read_of s) ++ drop n d) d) f),
       )
 
-  pub list-room : (k : ℕ) → length (list_by s (read_of s)) ≤ length d → k ≡ length (list_by s (read_of s)) → Good h whole (k / 5) ≡ list_fields s d
+  pub list-room : (k : ℕ) → length (list_by s (read_of s)) ≤ length d → k ≡ length (list_by s (read_of s)) → Ok (record { header = h; length = whole; fields = k / 5 }) ≡ list_fields s d
   unfolding list_fields listed_by
   list-room k l q =
       let n = length (list_by s (read_of s)) in
       let f : leb n (length d) ≡ true = le-leb n (length d) l in
-      ap (λ (j : ℕ). Good h whole (j / 5)) q ∙ sym (ap (listed_by n (length d)) e ∙ ap (λ (b : Bool). cond b (Good h whole (n / 5)) (Refused (NoRoom n))) f)
+      ap (λ (j : ℕ). Ok (record { header = h; length = whole; fields = j / 5 })) q ∙ sym (ap (listed_by n (length d)) e ∙ ap (λ (b : Bool). cond b (Ok (record { header = h; length = whole; fields = n / 5 })) (Err (NoRoom n))) f)
 
-pub list-refused : (s d : List ℕ) (r : Refusal) → read_of s ≡ read.Refused r → (Refused r ≡ list_fields s d) × (d ≡ laid (list_by s (read_of s)) d)
+pub list-refused : (s d : List ℕ) (r : Refusal) → read_of s ≡ Err r → (Err r ≡ list_fields s d) × (d ≡ laid (list_by s (read_of s)) d)
 unfolding list_fields listed_by list_by laid
 list-refused s d r e = (rw e, rw (e, le-leb 0 (length d) (omega arith)))

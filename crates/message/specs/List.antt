@@ -1,5 +1,5 @@
 -- All fields of a message at once: `a_field` numbers for each set position, rising, which say what the questions answer there.
-use Rattle.std.specs.Prelude.{ℕ, ◌/◌, true, cond, leb, length, Result, Ok, Err}
+use Rattle.std.specs.Prelude.{ℕ, ◌/◌, true, Result, Ok, Err, cond, leb, length}
 use mathlib.Core.List.{List, [], ◌∷◌, ◌++◌, foldr}
 use Rattle.tables.specs.declared.table.Row.{Row}
 use Rattle.tables.specs.Tables.{row_of}
@@ -10,9 +10,8 @@ use Rattle.fields.specs.declared.value.NoValue.{NoValue}
 use Rattle.fields.specs.Cut.{Piece, extent_of, cut}
 use Rattle.fields.specs.Value.{row_value}
 use Rattle.message.specs.declared.list.Listed.{Listed}
-use Rattle.message.specs.declared.list.Listed.TheVariants.{Good, Refused}
 use Rattle.message.specs.declared.read.Reading.{Reading}
-use Rattle.message.specs.declared.read.Reading.TheVariants as read
+use Rattle.message.specs.declared.refusal.Refusal.{Refusal}
 use Rattle.message.specs.declared.refusal.Refusal.TheVariants.{NoRoom}
 use Rattle.message.specs.Frame.{map_in, body_in}
 use Rattle.message.specs.Read.{read_of}
@@ -46,14 +45,14 @@ unfoldable pub list_of : (ℕ → Row) → ℕ → List Piece → List ℕ
 list_of rows n = foldr (λ (x : Piece) (rest : List ℕ). five_of (rows x.position) n x.position x.bytes ++ rest) []
 
 -- the list of what was read, none on a refusal
-unfoldable pub list_by : List ℕ → Reading → List ℕ
-list_by s (read.Good h n) = list_of (row_of h.messagetype) n (cut (row_of h.messagetype) (map_in s) (body_in n s))
-list_by s (read.Refused r) = []
+unfoldable pub list_by : List ℕ → Result Reading Refusal → List ℕ
+list_by s (Ok x) = list_of (row_of x.header.messagetype) x.length (cut (row_of x.header.messagetype) (map_in s) (body_in x.length s))
+list_by s (Err r) = []
 
 -- the answer, where so many numbers have room
-unfoldable pub listed_by : ℕ → ℕ → Reading → Listed
-listed_by need room (read.Good h n) = cond (leb need room) (Good h n (need / a_field)) (Refused (NoRoom need))
-listed_by need room (read.Refused r) = Refused r
+unfoldable pub listed_by : ℕ → ℕ → Result Reading Refusal → Result Listed Refusal
+listed_by need room (Ok x) = cond (leb need room) (Ok (record { header = x.header; length = x.length; fields = need / a_field })) (Err (NoRoom need))
+listed_by need room (Err r) = Err r
 
-unfoldable pub list_fields : List ℕ → List ℕ → Listed
+unfoldable pub list_fields : List ℕ → List ℕ → Result Listed Refusal
 list_fields s d = listed_by (length (list_by s (read_of s))) (length d) (read_of s)

@@ -8,9 +8,8 @@ ghost use Rattle.wire.specs.Map.{present};
 ghost use Rattle.fields.specs.Cut.{head_positions, positions, extent_of};
 ghost use Rattle.fields.specs.declared.value.NoValue.TheVariants.{Bad};
 ghost use Rattle.fields.specs.Value.{row_value};
-ghost use Rattle.message.specs.declared.read.Reading.TheVariants.{Good};
 ghost use Rattle.message.specs.Frame.{sum_bytes};
-ghost use Rattle.message.specs.Read.{read_of};
+ghost use Rattle.message.specs.Read.{Good, read_of};
 ghost use Rattle.message.specs.List.{a_field, five_of, list_by, list_fields};
 
 use crate::ask::text_start;
@@ -35,15 +34,12 @@ pub const TEXT: u64 = 3;
 // No type knows a position from 64 on, so no message has more fields.
 const MOST: usize = 64;
 
-// A good message's header values, its length and how many fields it has, or the refusal.
-#[derive(Clone, Copy)]
-pub enum Listed {
-    Good {
-        header: Header,
-        length: usize,
-        fields: usize,
-    },
-    Refused(Refusal),
+// A good message's header values, its length and how many fields it has.
+#[derive(Clone, Copy, PartialEq, Eq, Debug)]
+pub struct Listed {
+    pub header: Header,
+    pub length: usize,
+    pub fields: usize,
 }
 
 // The five numbers of a field, over the first of d.
@@ -151,25 +147,21 @@ fn count_set(map: &[u8]) -> usize
 
 // Reads the message at the front of s and lays all its fields into the list: the reader's refusals, then 11 with the numbers needed.
 // A list that has room for 64 fields has room for every message's, and they need not be counted first.
-pub fn list_fields(d: &mut [u64], s: &[u8]) -> Listed
+pub fn list_fields(d: &mut [u64], s: &[u8]) -> Result<Listed, Refusal>
     ensures value { result ≡ list_fields s.now d.old }
     ensures d_after { d.new ≡ laid (list_by s.now (read_of s.now)) d.old }
 {
-    match read(s) {
-        Reading::Good { header, length } => {
-            if d.len() < A_FIELD * MOST {
-                let need = A_FIELD * count_set(map_in(s));
-                if d.len() < need {
-                    return Listed::Refused(Refusal::NoRoom(need));
-                }
-            }
-            let laid = lay_fields(d, s, header, length);
-            Listed::Good {
-                header,
-                length,
-                fields: laid / A_FIELD,
-            }
+    let Reading { header, length } = read(s)?;
+    if d.len() < A_FIELD * MOST {
+        let need = A_FIELD * count_set(map_in(s));
+        if d.len() < need {
+            return Err(Refusal::NoRoom(need));
         }
-        Reading::Refused(refusal) => Listed::Refused(refusal),
     }
+    let laid = lay_fields(d, s, header, length);
+    Ok(Listed {
+        header,
+        length,
+        fields: laid / A_FIELD,
+    })
 }

@@ -11,37 +11,20 @@ use fields::walk::{BadAt, Walked, walk};
 use tables::table::is_type;
 use wire::text::{Allowed, takes_text};
 
-// Nothing is refused, and the body's plain form has so many bytes; or the refusal.
-#[derive(Clone, Copy)]
-pub enum Vetted {
-    Good(usize),
-    Refused(Refusal),
-}
-
 // A Comp ID is a text of 1 to 11 characters.
+#[tactic(auto, unfolding(crate::specs::Vet::good_comp_id))]
 pub fn is_comp_id(comp: &[u8]) -> bool
     ensures { result ≡ good_comp_id comp.now }
 {
-    if comp.len() == 0 {
-        return false;
-    }
-    takes_text(Allowed::Ascii, COMP_ID_BYTES, comp)
+    1 <= comp.len() && takes_text(Allowed::Ascii, COMP_ID_BYTES, comp)
 }
 
 // 6, where `named` says whether the Comp ID is good.
+#[tactic(auto, unfolding(crate::specs::Vet::good_header))]
 fn is_header(header: Header, named: bool) -> bool
     ensures { (comp : List ℕ) → named ≡ good_comp_id comp → result ≡ good_header header comp }
 {
-    if header.number == 0 {
-        return false;
-    }
-    if 1 < header.possdup {
-        return false;
-    }
-    if 1 < header.possresend {
-        return false;
-    }
-    named
+    1 <= header.number && header.possdup <= 1 && header.possresend <= 1 && named
 }
 
 // The refusal of the first bad field, by its reason.
@@ -54,43 +37,47 @@ fn bad_at(bad: BadAt) -> Refusal
     }
 }
 
-// The map and the body of a message of a known type: 7 to 10.
-fn vet_fields(messagetype: u8, map: &[u8], body: &[u8]) -> Vetted
+// The map and the body of a message of a known type: 7 to 10. Gives how many bytes the body's plain form has.
+#[tactic(auto, unfolding(crate::specs::Vet::vet_fields, crate::specs::Vet::vet_sets, crate::specs::Vet::vet_place, crate::specs::Vet::vet_walk))]
+fn vet_fields(messagetype: u8, map: &[u8], body: &[u8]) -> Result<usize, Refusal>
     ensures { result ≡ vet_fields (row_of messagetype) map.now body.now }
 {
     if let Some(unknown) = lowest_unknown(messagetype, map) {
-        return Vetted::Refused(Refusal::UnknownPosition(unknown));
+        return Err(Refusal::UnknownPosition(unknown));
     }
     if let Some(missing) = lowest_missing(messagetype, map) {
-        return Vetted::Refused(Refusal::MissingField(missing));
+        return Err(Refusal::MissingField(missing));
     }
-    match walk(messagetype, map, body) {
-        Ok(Walked { left, plain }) => {
-            if left == 0 {
-                Vetted::Good(plain)
-            } else {
-                Vetted::Refused(Refusal::LeftOver(left))
-            }
-        }
-        Err(bad) => Vetted::Refused(bad_at(bad)),
+    let Walked { left, plain } = walk(messagetype, map, body).map_err(bad_at)?;
+    if left == 0 {
+        Ok(plain)
+    } else {
+        Err(Refusal::LeftOver(left))
     }
 }
 
 // The checks of a message with any Comp ID of which `named` says whether it is good: the reader has seen its characters.
-pub(crate) fn vet_named(header: Header, named: bool, map: &[u8], body: &[u8]) -> Vetted
+#[tactic(auto, unfolding(crate::specs::Vet::vet))]
+pub(crate) fn vet_named(
+    header: Header,
+    named: bool,
+    map: &[u8],
+    body: &[u8],
+) -> Result<usize, Refusal>
     ensures { (comp : List ℕ) → named ≡ good_comp_id comp → result ≡ vet header comp map.now body.now }
 {
     let messagetype = header.messagetype;
     if !is_type(messagetype) {
-        return Vetted::Refused(Refusal::UnknownType);
+        return Err(Refusal::UnknownType);
     }
     if !is_header(header, named) {
-        return Vetted::Refused(Refusal::BadHeader);
+        return Err(Refusal::BadHeader);
     }
     vet_fields(messagetype, map, body)
 }
 
-pub fn vet(header: Header, comp: &[u8], map: &[u8], body: &[u8]) -> Vetted
+// The checks of a message: how many bytes its body's plain form has, or the refusal.
+pub fn vet(header: Header, comp: &[u8], map: &[u8], body: &[u8]) -> Result<usize, Refusal>
     ensures { result ≡ vet header comp.now map.now body.now }
 {
     vet_named(header, is_comp_id(comp), map, body)

@@ -32,7 +32,7 @@ fn comp_id(text: &[u8]) -> Option<[u8; COMP_ID_BYTES]> {
         return None;
     }
     let mut bytes = [0u8; COMP_ID_BYTES];
-    let _ = put_fixed(&mut bytes, Allowed::Ascii, COMP_ID_BYTES, text);
+    put_fixed(&mut bytes, Allowed::Ascii, COMP_ID_BYTES, text).ok()?;
     Some(bytes)
 }
 

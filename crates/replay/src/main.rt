@@ -14,7 +14,7 @@ mod capture;
 use crate::asked::{A_WORD, Asked, hear};
 use crate::capture::{BUFFER, Capture};
 use calls::{A_ROW, A_SEND, Done, steps};
-use message::frame::{COMP_ID_BYTES, Framed, check_frame, comp_id_in, front_length, header_in};
+use message::frame::{COMP_ID_BYTES, check_frame, comp_id_in, front_length, header_in};
 use message::list::{A_FIELD, DECIMAL, Listed, NUMBER, TEXT, list_fields};
 use message::refusal::{BAD_SUM, SHORT};
 use message::vet::is_comp_id;
@@ -29,7 +29,7 @@ use std::io::{BufWriter, Read, Write};
 use std::rt::Files;
 use std::{fs, io, str};
 use tables::dictionary::{Field, Sort, sort_of};
-use tables::table::{Row as Place, row_of};
+use tables::table::row_of;
 use wire::decimal::read_decimal;
 use wire::text::{Allowed, LONGEST, fixed_part};
 
@@ -97,9 +97,8 @@ fn print_field(
     s: &[u8],
 ) -> io::Result<()> {
     let [position, sort, at, count, value] = *listed;
-    let field = match row_of(messagetype, position as usize) {
-        Place::Required(field) | Place::Optional(field) => field,
-        Place::UnknownPosition | Place::UnknownType => return Ok(()),
+    let Some(field) = row_of(messagetype, position as usize).field() else {
+        return Ok(());
     };
     out.write_all(b"  ")?;
     print_name(out, field)?;
@@ -117,12 +116,7 @@ fn print_field(
 // The fields of the message at the front of s, a line each, in rising position; nothing where it is refused.
 fn print_fields(out: &mut impl Write, s: &[u8]) -> io::Result<()> {
     let mut numbers = [0u64; ROOM];
-    if let Listed::Good {
-        header,
-        length: _,
-        fields,
-    } = list_fields(&mut numbers, s)
-    {
+    if let Ok(Listed { header, fields, .. }) = list_fields(&mut numbers, s) {
         let (listed, _) = numbers.as_chunks();
         for field in listed.iter().take(fields) {
             print_field(out, header.messagetype, field, s)?;
@@ -310,7 +304,7 @@ fn begin(
 // Begins again with the Comp ID of the message at the front, if its checksum is right. Those before it changed nothing.
 fn name(out: &mut impl Write, view: &mut View, asked: &Asked, s: &[u8]) -> io::Result<()> {
     let comp = comp_id_in(s);
-    if is_comp_id(comp) && matches!(check_frame(s), Framed::Whole(_)) {
+    if is_comp_id(comp) && check_frame(s).is_ok() {
         begin(out, view, comp, true, asked)?;
     }
     Ok(())

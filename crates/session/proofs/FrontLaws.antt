@@ -16,30 +16,26 @@ use Rattle.fields.specs.declared.walk.BadAt.{BadAt}
 use Rattle.fields.specs.Sets.{lowest_unknown, lowest_missing}
 use Rattle.fields.specs.Walk.{walk_of}
 use Rattle.wire.proofs.TestLaws.{either}
-use Rattle.message.specs.declared.frame.Framed.{Framed}
-use Rattle.message.specs.declared.frame.Framed.TheVariants as frame
 use Rattle.message.specs.declared.frame.Header.{Header}
-use Rattle.message.specs.declared.read.Reading.TheVariants.{Good, Refused}
 use Rattle.message.specs.declared.refusal.Refusal.{Refusal}
 use Rattle.message.specs.declared.refusal.Refusal.TheVariants.{UnknownPosition, MissingField}
-use Rattle.message.specs.declared.vet.Vetted.{Vetted}
-use Rattle.message.specs.declared.vet.Vetted.TheVariants as vetted
 use Rattle.message.specs.Frame.{header_in, comp_id_in, map_in, body_in, length_in, framed, length_by, front_length}
-use Rattle.message.specs.Read.{read_vetted, read_whole, read_framed, read_of}
+use Rattle.message.specs.Read.{Good, read_vetted, read_whole, read_framed, read_of}
 use Rattle.message.specs.Refusal.{number_of}
 use Rattle.message.specs.Vet.{good_header, refusal_of, vet_walk, vet_place, vet_sets, vet_fields, vet}
+use Rattle.message.proofs.ReadLaws.{good-same}
 use Rattle.message.proofs.FrameLaws.{framed-by, front-short, front-other, front_by}
 
 module _ (s : List ℕ) (h : Header) (n : ℕ) where
-  by-vet : (k : ℕ) (v : Vetted) → read_vetted (header_in s) k v ≡ Good h n → k ≡ n
+  by-vet : (k : ℕ) (v : Result ℕ Refusal) → read_vetted (header_in s) k v ≡ Good h n → k ≡ n
   unfolding read_vetted
-  by-vet k (vetted.Good plain) e = cc
-  by-vet k (vetted.Refused r) e = let z : ◌≡◌ {A = ℕ} 0 1 = cc in absurd (omega arith)
+  by-vet k (Ok plain) e = (good-same (header_in s) h k n e).1
+  by-vet k (Err r) e = let z : ◌≡◌ {A = ℕ} 0 1 = cc in absurd (omega arith)
 
-  by-frame : (f : Framed) → read_framed s f ≡ Good h n → length_by f ≡ n
+  by-frame : (f : Result ℕ Refusal) → read_framed s f ≡ Good h n → length_by f ≡ n
   unfolding read_framed read_whole length_by
-  by-frame (frame.Whole k) e = by-vet k (vet (header_in s) (comp_id_in s) (map_in s) (body_in k s)) e
-  by-frame (frame.Refused r) e = let z : ◌≡◌ {A = ℕ} 0 1 = cc in absurd (omega arith)
+  by-frame (Ok k) e = by-vet k (vet (header_in s) (comp_id_in s) (map_in s) (body_in k s)) e
+  by-frame (Err r) e = let z : ◌≡◌ {A = ℕ} 0 1 = cc in absurd (omega arith)
 
   -- a good message's length is the Length at the front
   pub front-good : read_of s ≡ Good h n → front_length s ≡ n
@@ -47,9 +43,9 @@ module _ (s : List ℕ) (h : Header) (n : ℕ) where
   front-good e = by-frame (framed s) e
 
 -- the checks 5 to 10 refuse with 5 or more
-data Late : Vetted → Type 0 where
-  good : {n : ℕ} → Late (vetted.Good n)
-  refused : {r : Refusal} → 5 ≤ number_of r → Late (vetted.Refused r)
+data Late : Result ℕ Refusal → Type 0 where
+  good : {n : ℕ} → Late (Ok n)
+  refused : {r : Refusal} → 5 ≤ number_of r → Late (Err r)
 
 late-field : (why : Reason) (p : ℕ) → 5 ≤ number_of (refusal_of why p)
 unfolding refusal_of number_of
@@ -60,12 +56,12 @@ unfolding vet_walk number_of
 late-walk (Ok w) = either Late (eqb w.left 0) (λ e. good) (λ e. refused (omega arith))
 late-walk (Err bad) = refused (late-field bad.reason bad.position)
 
-late-place : (r : ℕ → Refusal) (p : Option ℕ) {v : Vetted} → ((k : ℕ) → 5 ≤ number_of (r k)) → Late v → Late (vet_place r p v)
+late-place : (r : ℕ → Refusal) (p : Option ℕ) {v : Result ℕ Refusal} → ((k : ℕ) → 5 ≤ number_of (r k)) → Late v → Late (vet_place r p v)
 unfolding vet_place
 late-place r (Some p) h l = refused {r = r p} (h p)
 late-place r None h l = l
 
-late-sets : (u m : Option ℕ) {v : Vetted} → Late v → Late (vet_sets u m v)
+late-sets : (u m : Option ℕ) {v : Result ℕ Refusal} → Late v → Late (vet_sets u m v)
 unfolding vet_sets number_of
 late-sets u m l = late-place UnknownPosition u (λ k. omega arith) (late-place MissingField m (λ k. omega arith) l)
 
@@ -80,18 +76,18 @@ late h comp_id m body =
 
 -- what is refused with 1, 2 or 3 has no Length that is passed over
 module _ (s : List ℕ) (r : Refusal) (l : number_of r < 4) where
-  early-vet : (k : ℕ) (v : Vetted) → Late v → read_vetted (header_in s) k v ≡ Refused r → ⊥
+  early-vet : (k : ℕ) (v : Result ℕ Refusal) → Late v → read_vetted (header_in s) k v ≡ Err r → ⊥
   unfolding read_vetted
-  early-vet k (vetted.Good n) good e = let z : ◌≡◌ {A = ℕ} 0 1 = cc in omega arith
-  early-vet k (vetted.Refused q) (refused m) e = let z : q ≡ r = cc in omega (arith, ap number_of z)
+  early-vet k (Ok n) good e = let z : ◌≡◌ {A = ℕ} 0 1 = cc in omega arith
+  early-vet k (Err q) (refused m) e = let z : q ≡ r = cc in omega (arith, ap number_of z)
 
-  early-frame : (f : Framed) → read_framed s f ≡ Refused r → length_by f ≡ 0
+  early-frame : (f : Result ℕ Refusal) → read_framed s f ≡ Err r → length_by f ≡ 0
   unfolding read_framed read_whole length_by
-  early-frame (frame.Whole k) e =
+  early-frame (Ok k) e =
       absurd (early-vet k (vet (header_in s) (comp_id_in s) (map_in s) (body_in k s)) (late (header_in s) (comp_id_in s) (map_in s) (body_in k s)) e)
-  early-frame (frame.Refused q) e = let z : q ≡ r = cc in rw (ne_eqb (number_of q) 4 (omega (arith, ap number_of z)))
+  early-frame (Err q) e = let z : q ≡ r = cc in rw (ne_eqb (number_of q) 4 (omega (arith, ap number_of z)))
 
-  pub front-refused : read_of s ≡ Refused r → front_length s ≡ 0
+  pub front-refused : read_of s ≡ Err r → front_length s ≡ 0
   unfolding read_of front_length
   front-refused e = early-frame (framed s) e
 

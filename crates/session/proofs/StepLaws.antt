@@ -10,12 +10,11 @@ use lib.Dec.{eqb, leb, ltb}
 use lib.ListN.{length, get_or}
 use lib.Seq.{take-length}
 use borrow.Author.Tests.{leb-true, ne_eqb, eqb-true}
-use Rattle.std.specs.Prelude.{Option, Some}
+use Rattle.std.specs.Prelude.{Result, Ok, Err, Option, Some}
 use Rattle.wire.proofs.TestLaws.{either}
-use Rattle.message.specs.declared.frame.Framed.TheVariants as frame
 use Rattle.message.specs.declared.frame.Header.{Header}
 use Rattle.message.specs.declared.read.Reading.{Reading}
-use Rattle.message.specs.declared.read.Reading.TheVariants as reading
+use Rattle.message.specs.Read as reading
 use Rattle.message.specs.declared.refusal.Refusal.{Refusal}
 use Rattle.message.specs.declared.refusal.Refusal.TheVariants as refusal
 use Rattle.message.specs.Frame.{length_in, comp_id_in, map_in, body_in, framed_by, framed, length_by, front_length}
@@ -40,9 +39,9 @@ use Rattle.session.proofs.SessionLaws.{spoiled-nothing}
 -- what the frame can find: a message of 58 bytes or more, its checksum right or spoiled; or it refuses with 1, 2 or 3
 data Front (s : List ℕ) : Type 0 where
   there : 58 ≤ front_length s → front_length s ≤ length s → Front s
-  short : (n : ℕ) → framed s ≡ frame.Refused (refusal.Short n) → Front s
-  bad-start : framed s ≡ frame.Refused refusal.BadStart → Front s
-  bad-length : framed s ≡ frame.Refused refusal.BadLength → Front s
+  short : (n : ℕ) → framed s ≡ Err (refusal.Short n) → Front s
+  bad-start : framed s ≡ Err refusal.BadStart → Front s
+  bad-length : framed s ≡ Err refusal.BadLength → Front s
 
 sized : (n : ℕ) (s : List ℕ) → framed s ≡ framed_by n s → Front s
 unfolding framed_by
@@ -71,7 +70,7 @@ pub front-within : (s : List ℕ) → front_length s ≤ length s
 unfolding front_length length_by number_of
 front-within s = go (front s)
   where
-    none : (r : Refusal) → framed s ≡ frame.Refused r → (number_of r ≡ 4 → ⊥) → front_length s ≤ length s
+    none : (r : Refusal) → framed s ≡ Err r → (number_of r ≡ 4 → ⊥) → front_length s ≤ length s
     none r e n = let z : front_length s ≡ 0 = ap length_by e ∙ rw (ne_eqb (number_of r) 4 n) in omega arith
 
     go : Front s → front_length s ≤ length s
@@ -103,19 +102,19 @@ module _ (s : Session) (left : List ℕ) (up : s.state ≡ Down → ⊥) where
       go Waiting u = refl
       go Live u = refl
 
-  stop-down : (r : Refusal) → read_of left ≡ reading.Refused r → (number_of r ≡ 1 → ⊥) → (number_of r ≡ 4 → ⊥) → (step s left).session.state ≡ Down
+  stop-down : (r : Refusal) → read_of left ≡ Err r → (number_of r ≡ 1 → ⊥) → (number_of r ≡ 4 → ⊥) → (step s left).session.state ≡ Down
   unfolding arrived arrival_of arrival_by
   stop-down r e n m =
-      ap (λ (x : Stepped). x.session.state) (step-arrived ∙ ap (λ (x : Reading). arrived s (arrival_by s.ours left x)) e)
+      ap (λ (x : Stepped). x.session.state) (step-arrived ∙ ap (λ (x : Result Reading Refusal). arrived s (arrival_by s.ours left x)) e)
       ∙ refused-down s r n m
 
   -- too few bytes are code 1
-  pub short-code : (n : ℕ) → read_of left ≡ reading.Refused (refusal.Short n) → code_number (step s left).answer.code ≡ 1
+  pub short-code : (n : ℕ) → read_of left ≡ Err (refusal.Short n) → code_number (step s left).answer.code ≡ 1
   unfolding number_of code_number
   short-code n e = ap code_number (spoiled-nothing s left (refusal.Short n) up e (inl refl)).code
 
   -- and say how many are needed
-  pub short-needs : (n : ℕ) → read_of left ≡ reading.Refused (refusal.Short n) → code_besides (step s left).answer.code ≡ n
+  pub short-needs : (n : ℕ) → read_of left ≡ Err (refusal.Short n) → code_besides (step s left).answer.code ≡ n
   unfolding number_of besides_of code_besides
   short-needs n e = ap code_besides (spoiled-nothing s left (refusal.Short n) up e (inl refl)).code
 
@@ -131,7 +130,7 @@ module _ (s : Session) (left : List ℕ) (up : s.state ≡ Down → ⊥) where
       go (bad-length e) = absurd (on (stop-down refusal.BadLength (ap (read_framed left) e) (λ h. omega arith) (λ h. omega arith)))
 
 -- more bytes behind a message change nothing
-module _ (b c : List ℕ) (long : (n : ℕ) → read_of b ≡ reading.Refused (refusal.Short n) → ⊥) where
+module _ (b c : List ℕ) (long : (n : ℕ) → read_of b ≡ Err (refusal.Short n) → ⊥) where
   frame-more : front_length (b ++ c) ≡ front_length b
   unfolding front_length read_of read_framed
   frame-more = ap length_by (framed-more b c (λ n e. long n (ap (read_framed b) e)))
@@ -150,9 +149,9 @@ module _ (b c : List ℕ) (long : (n : ℕ) → read_of b ≡ reading.Refused (r
   unfolding arrival_of arrival_by
   arrival-more ours = ap (arrival_by ours (b ++ c)) (read_more b c long) ∙ go (read_of b) refl
     where
-      go : (r : Reading) → read_of b ≡ r → arrival_by ours (b ++ c) r ≡ arrival_by ours b r
-      go (reading.Good h n) e = ap Good (message-more ours h n e)
-      go (reading.Refused r) e = refl
+      go : (r : Result Reading Refusal) → read_of b ≡ r → arrival_by ours (b ++ c) r ≡ arrival_by ours b r
+      go (Ok x) e = ap Good (message-more ours x.header x.length e)
+      go (Err r) e = refl
 
 -- so a step that did not meet 1 is the same with more bytes behind it, and uses as many
 module _ (s : Session) (b c : List ℕ) (up : s.state ≡ Down → ⊥) (long : code_number (step s b).answer.code ≡ 1 → ⊥) where

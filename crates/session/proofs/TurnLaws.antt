@@ -7,12 +7,13 @@ use native.Mathlib.Omega.{arith}
 use borrow.Author.Tests.{le-ltb, ne_eqb, ltb-true, eqb-true}
 use lib.Dec.{eqb, ltb}
 use lib.ListN.{length}
+use Rattle.std.specs.Prelude.{Result, Ok, Err}
 use Rattle.wire.proofs.TestLaws.{and-true}
+use Rattle.message.specs.declared.refusal.Refusal.{Refusal}
 use Rattle.message.specs.declared.frame.Header.{Header}
 use Rattle.message.specs.declared.read.Reading.{Reading}
-use Rattle.message.specs.declared.read.Reading.TheVariants.{Good, Refused}
 use Rattle.message.specs.Frame.{front_length, map_in, body_in}
-use Rattle.message.specs.Read.{read_of}
+use Rattle.message.specs.Read.{Good, read_of}
 use Rattle.session.specs.declared.arrival.Due.{Due}
 use Rattle.session.specs.declared.state.Row.TheVariants as row
 use Rattle.session.specs.declared.state.Send.TheVariants.{Nothing}
@@ -30,7 +31,7 @@ use Rattle.session.proofs.TypeLaws.{above-eight}
 use Rattle.session.proofs.StepLaws.{front-within}
 
 -- what a length that is not 0 tells of what was read
-pub record IsDue (s : Session) (left : List ℕ) (read : Reading) (n : ℕ) : Type 0 where
+pub record IsDue (s : Session) (left : List ℕ) (read : Result Reading Refusal) (n : ℕ) : Type 0 where
   pub live : s.state ≡ Live
   pub header : Header
   pub good : read ≡ Good header n
@@ -56,16 +57,16 @@ module _ (s : Session) (left : List ℕ) where
         more = ltb-true s.expected last b.1;
       }
 
-  pub is-due : (read : Reading) (n : ℕ) → n ≡ due_length s left read → (n ≡ 0 → ⊥) → IsDue s left read n
+  pub is-due : (read : Result Reading Refusal) (n : ℕ) → n ≡ due_length s left read → (n ≡ 0 → ⊥) → IsDue s left read n
   unfolding due_length due_in
   is-due read n e some = by_state s.state refl e
     where
-      by_read : s.state ≡ Live → (x : Reading) → n ≡ due_in s left x → IsDue s left x n
-      by_read l (Refused q) e = absurd (some e)
-      by_read l (Good h k) e = by-test (is_due_header h s.expected && is_ours s.ours left) refl e
+      by_read : s.state ≡ Live → (x : Result Reading Refusal) → n ≡ due_in s left x → IsDue s left x n
+      by_read l (Err q) e = absurd (some e)
+      by_read l (Ok x) e = by-test (is_due_header x.header s.expected && is_ours s.ours left) refl e
         where
-          by-test : (b : Bool) → is_due_header h s.expected && is_ours s.ours left ≡ b → n ≡ cond b k 0 → IsDue s left (Good h k) n
-          by-test true t e = subst (IsDue s left (Good h k)) (sym e) (due-good h k l t)
+          by-test : (b : Bool) → is_due_header x.header s.expected && is_ours s.ours left ≡ b → n ≡ cond b x.length 0 → IsDue s left (Ok x) n
+          by-test true t e = subst (IsDue s left (Ok x)) (sym e) (due-good x.header x.length l t)
           by-test false t e = absurd (some e)
 
       by_state : (p : State) → s.state ≡ p → n ≡ cond (eqb (state_number p) (state_number Live)) (due_in s left read) 0 → IsDue s left read n
@@ -82,14 +83,14 @@ pub record Took (s : Session) (left : List ℕ) (d : Due) : Type 0 where
   pub most : d.length ≤ 4096
 
 -- the step takes it and does nothing else
-taken-by : (s : Session) (left : List ℕ) (read : Reading) (n : ℕ) (q : IsDue s left read n) → read_of left ≡ Good q.header n
+taken-by : (s : Session) (left : List ℕ) (read : Result Reading Refusal) (n : ℕ) (q : IsDue s left read n) → read_of left ≡ Good q.header n
     → step s left ≡ take s (s.expected + 1) s.own Nothing (row.Business s.expected)
 unfolding step step_by step_in arrived arrival_by message_in ruled ruled_in for_us live numbered equal
 taken-by s left read n q f =
     let m = q.more in
     simp (q.live, f, q.ours, sym (above-eight q.header.messagetype (map_in left) (body_in n left) q.business), q.number, le-ltb s.expected s.expected (omega arith), ne_eqb s.expected last (omega arith))
 
-pub due-step : (s : Session) (left : List ℕ) (read : Reading) (d : Due) → read ≡ read_of left → d ≡ take_due s left read → (d.length ≡ 0 → ⊥) → Took s left d
+pub due-step : (s : Session) (left : List ℕ) (read : Result Reading Refusal) (d : Due) → read ≡ read_of left → d ≡ take_due s left read → (d.length ≡ 0 → ⊥) → Took s left d
 unfolding take_due
 due-step s left read d r e some =
     let n : d.length ≡ due_length s left read = ap (λ (x : Due). x.length) e in

@@ -187,17 +187,21 @@ fn is_ours(ours: &[u8; COMP_ID_BYTES], s: &[u8]) -> bool
 }
 
 // What was read at the front of s: a good message's fields that the rules name.
-pub(crate) fn arrival_by(ours: &[u8; COMP_ID_BYTES], s: &[u8], reading: Reading) -> Arrival
+pub(crate) fn arrival_by(
+    ours: &[u8; COMP_ID_BYTES],
+    s: &[u8],
+    reading: Result<Reading, Refusal>,
+) -> Arrival
     ensures { result ≡ arrival_by ours.now s.now reading }
 {
     match reading {
-        Reading::Good { header, length } => Arrival::Good(Message {
+        Ok(Reading { header, length }) => Arrival::Good(Message {
             number: header.number,
             possdup: header.possdup == 1,
             ours: is_ours(ours, s),
             content: content_in(header.messagetype, s, length),
         }),
-        Reading::Refused(refusal) => Arrival::Refused(refusal),
+        Err(refusal) => Arrival::Refused(refusal),
     }
 }
 
@@ -218,7 +222,7 @@ pub struct Due {
 
 impl Session {
     // The length of business in its turn, for a Live session; 0 for any other message.
-    fn due_length(self, s: &[u8], reading: Reading) -> usize
+    fn due_length(self, s: &[u8], reading: Result<Reading, Refusal>) -> usize
         ensures { result ≡ due_length self s.now reading }
     {
         let ours = self.ours;
@@ -226,14 +230,14 @@ impl Session {
             return 0;
         }
         match reading {
-            Reading::Good { header, length } => {
+            Ok(Reading { header, length }) => {
                 if is_due_header(header, self.expected) & is_ours(&ours, s) {
                     length
                 } else {
                     0
                 }
             }
-            Reading::Refused(_) => 0,
+            Err(_) => 0,
         }
     }
 
@@ -249,7 +253,7 @@ impl Session {
     }
 
     // What was read at the front of s is taken, where it is business in its turn. The rules would do no more.
-    pub fn take_due(self, s: &[u8], reading: Reading) -> Due
+    pub fn take_due(self, s: &[u8], reading: Result<Reading, Refusal>) -> Due
         ensures { result ≡ take_due self s.now reading }
     {
         let length = self.due_length(s, reading);

@@ -46,7 +46,7 @@ fn sums_of_messages(rt: &impl Print) -> io::Result<()> {
 fn decimal(rt: &impl Print, name: &str, bytes: &[u8; 8], value: i64) -> io::Result<()> {
     let mut d = [0u8; 8];
     let laid = put_decimal(&mut d, value);
-    let right = matches!(laid, Ok(8)) && d == *bytes && read_decimal(bytes) == value;
+    let right = laid == Ok(8) && d == *bytes && read_decimal(bytes) == value;
     println!(rt; "Decimal {name}: {}", verdict(right))
 }
 
@@ -106,8 +106,7 @@ fn characters_of_accented(rt: &impl Print) -> io::Result<()> {
 // A character is shown as these bytes.
 fn shown(rt: &impl Print, name: &str, b: u8, want: &[u8]) -> io::Result<()> {
     let mut d = [0u8; 4];
-    let laid = put_shown(&mut d, b);
-    let right = match laid {
+    let right = match put_shown(&mut d, b) {
         Ok(n) => d.get(..n) == Some(want),
         Err(_) => false,
     };

@@ -13,7 +13,8 @@
 // A line that begins with # is passed over.
 #![tactic(auto)]
 
-use message::ask::{Asked, ask_number, ask_number_of, ask_text, text};
+use fields::value::Value;
+use message::ask::{ask_number, ask_number_of, ask_text, text};
 use message::read::{Reading, body, comp_id, map, read};
 use message::refusal::Refusal;
 use session::day::{Connected, Made};
@@ -24,7 +25,7 @@ use std::io::Read;
 use tables::dictionary::Field;
 use tables::table::EXECUTION_REPORT;
 use wire::map::MAP_BYTES;
-use writer::write::{Written, write};
+use writer::write::write;
 
 // The most bytes of input that are looked at.
 const MOST: usize = 65536;
@@ -41,12 +42,12 @@ fn print_refusal(rt: &impl Print, refusal: Refusal) -> io::Result<()> {
 }
 
 // A Decimal is shown as its count of hundred-millionths.
-fn print_asked(rt: &impl Print, asked: Asked) -> io::Result<()> {
+fn print_asked(rt: &impl Print, asked: Result<Value, Refusal>) -> io::Result<()> {
     match asked {
-        Asked::Number(n) => print!(rt; "number {n}"),
-        Asked::Decimal(z) => print!(rt; "decimal {z}"),
-        Asked::Text(n) => print!(rt; "text of {n}"),
-        Asked::Refused(refusal) => print_refusal(rt, refusal),
+        Ok(Value::Number(n)) => print!(rt; "number {n}"),
+        Ok(Value::Decimal(z)) => print!(rt; "decimal {z}"),
+        Ok(Value::Text(n)) => print!(rt; "text of {n}"),
+        Err(refusal) => print_refusal(rt, refusal),
     }
 }
 
@@ -60,7 +61,7 @@ fn print_shares(rt: &impl Print, s: &[u8]) -> io::Result<()> {
 // The message at the front of s, as the reader gives it.
 fn print_reading(rt: &impl Print, s: &[u8]) -> io::Result<()> {
     match read(s) {
-        Reading::Good { header, length } => {
+        Ok(Reading { header, length }) => {
             let messagetype = header.messagetype;
             print!(rt; "type {messagetype} number {}", header.number)?;
             print!(rt;
@@ -74,7 +75,7 @@ fn print_reading(rt: &impl Print, s: &[u8]) -> io::Result<()> {
             }
             Ok(())
         }
-        Reading::Refused(refusal) => print_refusal(rt, refusal),
+        Err(refusal) => print_refusal(rt, refusal),
     }
 }
 
@@ -105,16 +106,16 @@ fn print_hex(rt: &impl Print, s: &[u8]) -> io::Result<()> {
 // The message at the front of s, read and written again.
 fn print_plain(rt: &impl Print, s: &[u8]) -> io::Result<()> {
     match read(s) {
-        Reading::Good { header, length: _ } => {
+        Ok(Reading { header, length: _ }) => {
             let mut d = [0u8; 4096];
             let none = [0u8; MAP_BYTES];
             let map = map(s).first_chunk().unwrap_or(&none);
             match write(&mut d, header, comp_id(s), map, body(s)) {
-                Written::Wrote(n) => print_hex(rt, d.get(..n).unwrap_or(&d)),
-                Written::Refused(refusal) => print_refusal(rt, refusal),
+                Ok(n) => print_hex(rt, d.get(..n).unwrap_or(&d)),
+                Err(refusal) => print_refusal(rt, refusal),
             }
         }
-        Reading::Refused(refusal) => print_refusal(rt, refusal),
+        Err(refusal) => print_refusal(rt, refusal),
     }
 }
 

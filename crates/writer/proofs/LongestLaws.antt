@@ -7,6 +7,7 @@ use Prim.Native.Nat.{ℕ, ◌+◌, ◌≤◌}
 use native.Mathlib.Omega.{arith}
 use borrow.Author.Tests.{le-leb}
 use lib.ListN.{length}
+use Rattle.std.specs.Prelude.{Ok}
 use Rattle.crc.specs.Crc.{crc32c}
 use Rattle.tables.specs.Dictionary.{yes}
 use Rattle.tables.specs.Longest.{frame_bytes, most_from, longest_length, longest_written}
@@ -20,13 +21,10 @@ use Rattle.fields.specs.Plain.{plain_fields}
 use Rattle.fields.proofs.BytesLaws.{bytes-append, bytes-replicate, bytes-fixed, plain-bytes}
 use Rattle.fields.proofs.FullLaws.{full_map, full_body, full-map-size, full-map-bytes, full-body-bytes}
 use Rattle.message.specs.declared.frame.Header.{Header}
-use Rattle.message.specs.declared.read.Reading.TheVariants.{Good}
-use Rattle.message.specs.declared.vet.Vetted.TheVariants as vetted
 use Rattle.message.specs.Frame.{stx, comp_id_bytes, sum_bytes, comp_id_in, map_in, body_in}
-use Rattle.message.specs.Read.{read_of}
+use Rattle.message.specs.Read.{Good, read_of}
 use Rattle.message.specs.Vet.{good_comp_id, good_header, vet}
 use Rattle.message.proofs.LongestLaws.{body-longest, never-longer, never-above, full-good}
-use Rattle.writer.specs.declared.write.Written.TheVariants.{Wrote}
 use Rattle.writer.specs.Longest.{Attained}
 use Rattle.writer.specs.Plain.{head_bytes, sealed, message_bytes, plain_message, plain_of}
 use Rattle.writer.specs.Write.{write_length, write_vetted, write_of}
@@ -44,14 +42,14 @@ module _ (s : List ℕ) (h : Header) (n : ℕ) (e : read_of s ≡ Good h n) wher
   plain-longest = omega (arith, plain-no-longer s h n e, read-longest)
 
 -- nor is what the writer writes
-pub wrote-longest : (h : Header) (comp_id m body d : List ℕ) (n : ℕ) → write_of h comp_id m body d ≡ Wrote n → n ≤ longest_length h.messagetype
+pub wrote-longest : (h : Header) (comp_id m body d : List ℕ) (n : ℕ) → write_of h comp_id m body d ≡ Ok n → n ≤ longest_length h.messagetype
 wrote-longest h comp_id m body d n w =
     let g = wrote-good h comp_id m body d n w in
     omega (arith, g.size, never-longer h comp_id m body g.plain g.good)
 
 -- with room for the longest of all, whatever passes the checks 5 to 10 is written
-pub room-enough : (h : Header) (comp_id m body d : List ℕ) (plain : ℕ) → vet h comp_id m body ≡ vetted.Good plain → longest_written ≤ length d
-    → write_of h comp_id m body d ≡ Wrote (frame_bytes + plain)
+pub room-enough : (h : Header) (comp_id m body d : List ℕ) (plain : ℕ) → vet h comp_id m body ≡ Ok plain → longest_written ≤ length d
+    → write_of h comp_id m body d ≡ Ok (frame_bytes + plain)
 unfolding write_of write_vetted write_length
 room-enough h comp_id m body d plain v r =
     let l : frame_bytes + plain ≤ length d = omega (arith, never-above h comp_id m body plain v) in

@@ -7,9 +7,9 @@ use Rattle.wire.specs.Number.{Bytes}
 use Rattle.fields.specs.Value.{value_at, text_at}
 use Rattle.tables.specs.Tables.{row_of}
 use Rattle.message.specs.declared.frame.Header.{Header}
-use Rattle.message.specs.declared.read.Reading.TheVariants.{Good}
+use Rattle.message.proofs.ReadLaws.{good-same}
 use Rattle.message.specs.Frame.{comp_id_in, map_in, body_in}
-use Rattle.message.specs.Read.{read_of}
+use Rattle.message.specs.Read.{Good, read_of}
 use Rattle.writer.specs.Plain.{plain_of}
 use Rattle.writer.specs.Same.{SameFields}
 use Rattle.writer.proofs.GoodLaws.{plain-form-says}
@@ -21,8 +21,9 @@ says-one : (t : List ℕ) (k k' : ℕ) (s s' : List ℕ) (h h' : Header) (n n' :
 says-one t k k' s s' h h' n n' x x' =
     let r : read_of t ≡ Good h k = x.read in
     let r' : read_of t ≡ Good h' k' = x'.read in
-    let e : h ≡ h' = cc in
-    let f : k ≡ k' = cc in
+    let same = good-same h h' k k' (sym r ∙ r') in
+    let e = same.0 in
+    let f = same.1 in
     record {
       header = e;
       comp-id = sym x.comp-id ∙ x'.comp-id;

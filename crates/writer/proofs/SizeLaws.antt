@@ -9,6 +9,7 @@ use mathlib.Core.List.{List, [], ◌∷◌, ◌++◌, append-nil}
 use borrow.Author.Tests.{le-leb}
 use lib.ListN.{length, get_or, replicate, drop_of_length-le}
 use lib.Seq.{drop_at}
+use Rattle.std.specs.Prelude.{Ok}
 use Rattle.tables.specs.declared.dictionary.Field.TheVariants.{EndSequence, NextExpectedMessageSequence, Password, StartSequence}
 use Rattle.tables.specs.Dictionary.{entry, row_number, sort_of, width_of}
 use Rattle.tables.specs.Line.{row_at, is_known, is_required}
@@ -34,9 +35,7 @@ use Rattle.fields.specs.Walk.{onward, walk_through, walk_of, all_good}
 use Rattle.fields.proofs.BytesLaws.{no_byte}
 use Rattle.fields.proofs.PositionLaws.{later-skip, later-end, positions-split}
 use Rattle.fields.proofs.WalkLaws.{walk_from, walk-on}
-use Rattle.message.specs.declared.vet.Vetted.TheVariants as vetted
 use Rattle.message.specs.Vet.{good_comp_id, good_header, vet_fields, vet_sets, vet_place, vet_walk, vet}
-use Rattle.writer.specs.declared.write.Written.TheVariants.{Wrote}
 use Rattle.writer.specs.Send.{Outgoing, logout, heartbeat, heartbeat_for, test_request, resend_request, gap_fill, logon, logon_of, send_of, map_with}
 use Rattle.writer.specs.Write.{write_of, write_vetted, write_length}
 
@@ -71,13 +70,13 @@ pub record Complete (x : Outgoing) (b plain : ℕ) : Type 0 where
   pub walked : walk_from (row_of x.head.messagetype) (positions (map_of b) 8 0) 0 x.body ≡ all_good 0 plain
 
 module _ {x : Outgoing} {b plain : ℕ} (c : Complete x b plain) where
-  complete-fields : vet_fields (row_of x.head.messagetype) x.map x.body ≡ vetted.Good plain
+  complete-fields : vet_fields (row_of x.head.messagetype) x.map x.body ≡ Ok plain
   unfolding vet_fields vet_sets vet_place vet_walk walk_of walk_from cut
   complete-fields = rw (c.map, c.known, c.filled, first_byte b, c.walked)
 
   -- with a number, a good Comp ID and room it is written
   pub complete-sent : (comp_id d : List ℕ) → 1 ≤ x.head.number → good_comp_id comp_id ≡ true → 58 + plain ≤ length d
-      → send_of x comp_id d ≡ Wrote (58 + plain)
+      → send_of x comp_id d ≡ Ok (58 + plain)
   unfolding send_of write_of write_vetted write_length vet good_header
   complete-sent comp_id d h g r =
       rw (
@@ -151,25 +150,25 @@ resend-request-map = (computed 0 0 0 0 0).4.map
 
 -- where our Comp ID is good, the number is not 0 and there is room, each is written
 module _ (number : ℕ) (h : 1 ≤ number) (comp_id : List ℕ) (g : good_comp_id comp_id ≡ true) (d : List ℕ) where
-  pub logout-written : 58 ≤ length d → send_of (logout number) comp_id d ≡ Wrote 58
+  pub logout-written : 58 ≤ length d → send_of (logout number) comp_id d ≡ Ok 58
   logout-written = complete-sent (computed number 0 0 0 0).0 comp_id d h g
 
-  pub heartbeat-written : 58 ≤ length d → send_of (heartbeat number) comp_id d ≡ Wrote 58
+  pub heartbeat-written : 58 ≤ length d → send_of (heartbeat number) comp_id d ≡ Ok 58
   heartbeat-written = complete-sent (computed number 0 0 0 0).1 comp_id d h g
 
-  pub heartbeat-for-written : (id : ℕ) → 60 ≤ length d → send_of (heartbeat_for number id) comp_id d ≡ Wrote 60
+  pub heartbeat-for-written : (id : ℕ) → 60 ≤ length d → send_of (heartbeat_for number id) comp_id d ≡ Ok 60
   heartbeat-for-written id = complete-sent (computed number id 0 0 0).2 comp_id d h g
 
-  pub test-request-written : (id : ℕ) → 60 ≤ length d → send_of (test_request number id) comp_id d ≡ Wrote 60
+  pub test-request-written : (id : ℕ) → 60 ≤ length d → send_of (test_request number id) comp_id d ≡ Ok 60
   test-request-written id = complete-sent (computed number id 0 0 0).3 comp_id d h g
 
-  pub resend-request-written : (start end : ℕ) → 66 ≤ length d → send_of (resend_request number start end) comp_id d ≡ Wrote 66
+  pub resend-request-written : (start end : ℕ) → 66 ≤ length d → send_of (resend_request number start end) comp_id d ≡ Ok 66
   resend-request-written start end = complete-sent (computed number 0 start end 0).4 comp_id d h g
 
-  pub gap-fill-written : (new : ℕ) → 63 ≤ length d → send_of (gap_fill number new) comp_id d ≡ Wrote 63
+  pub gap-fill-written : (new : ℕ) → 63 ≤ length d → send_of (gap_fill number new) comp_id d ≡ Ok 63
   gap-fill-written new = complete-sent (computed number 0 0 0 new).5 comp_id d h g
 
   pub logon-written : (password : List ℕ) (next : ℕ) → takes Ascii (width_of (sort_of Password)) password ≡ true → 512 ≤ length d
-      → logon_of number password next comp_id d ≡ Wrote 512
+      → logon_of number password next comp_id d ≡ Ok 512
   unfolding logon_of
   logon-written password next t r = rw t (complete-sent (logon-complete number password next t) comp_id d h g r)

@@ -8,6 +8,7 @@ use mathlib.Core.List.{List, ◌++◌}
 use borrow.Author.Tests.{le-leb, lt-leb, leb-true}
 use lib.Dec.{leb}
 use lib.ListN.{length, take, drop, length-append, length-drop}
+use Rattle.std.specs.Prelude.{Result, Ok, Err}
 use Rattle.crc.specs.Crc.{crc32c}
 use Rattle.wire.specs.declared.text.Allowed.TheVariants.{Ascii}
 use Rattle.wire.specs.Laying.{laid}
@@ -18,16 +19,13 @@ use Rattle.tables.specs.Tables.{row_of}
 use Rattle.fields.specs.Plain.{plain_fields}
 use Rattle.fields.specs.Words.{ClearFrom}
 use Rattle.wire.proofs.TestLaws.{rest_of}
+use Rattle.message.specs.declared.refusal.Refusal.{Refusal}
 use Rattle.message.specs.declared.frame.Header.{Header}
 use Rattle.message.specs.declared.refusal.Refusal.{Refusal}
 use Rattle.message.specs.declared.refusal.Refusal.TheVariants.{NoRoom}
-use Rattle.message.specs.declared.vet.Vetted.{Vetted}
-use Rattle.message.specs.declared.vet.Vetted.TheVariants as vetted
 use Rattle.message.specs.Vet.{good_comp_id, good_header, vet}
 use Rattle.wire.proofs.TestLaws.{passed}
 use Rattle.message.proofs.VetLaws.{good-low, GoodMessage, good-vetted}
-use Rattle.writer.specs.declared.write.Written.{Written}
-use Rattle.writer.specs.declared.write.Written.TheVariants.{Wrote, Refused}
 use Rattle.writer.specs.Plain.{head_bytes, sealed, message_bytes, plain_message}
 use Rattle.writer.specs.Write.{write_length, write_vetted, write_of, after_writing, written}
 use Rattle.wire.proofs.BufferLaws.{lent_from, laid-there, take-laid, Front, front-on, number-on, front-own, laid-over}
@@ -104,15 +102,15 @@ module _ (h : Header) (comp_id m fields : List ℕ) (u : takes Ascii 12 comp_id 
 
 -- the checks refuse
 module _ (h : Header) (comp_id m body d : List ℕ) where
-  pub write-refused : (r : Refusal) (x : Vetted) → x ≡ vet h comp_id m body → x ≡ vetted.Refused r
-      → (Refused r ≡ write_of h comp_id m body d) × (d ≡ written h comp_id m body d)
+  pub write-refused : (r : Refusal) (x : Result ℕ Refusal) → x ≡ vet h comp_id m body → x ≡ Err r
+      → (Err r ≡ write_of h comp_id m body d) × (d ≡ written h comp_id m body d)
   unfolding write_of write_vetted written after_writing
   write-refused r x v q =
-      let e : Refused r ≡ write_of h comp_id m body d = sym (ap (write_vetted (length d)) (sym v ∙ q)) in
-      (e, ap (λ (y : Written). after_writing y (plain_message h comp_id m body) d) e)
+      let e : Err r ≡ write_of h comp_id m body d = sym (ap (write_vetted (length d)) (sym v ∙ q)) in
+      (e, ap (λ (y : Result ℕ Refusal). after_writing y (plain_message h comp_id m body) d) e)
 
   -- or not
-  module _ (plain : ℕ) (v : vet h comp_id m body ≡ vetted.Good plain) where
+  module _ (plain : ℕ) (v : vet h comp_id m body ≡ Ok plain) where
     vet-good : GoodMessage h comp_id m body plain
     vet-good = good-vetted h comp_id m body plain v
 
@@ -133,23 +131,23 @@ module _ (h : Header) (comp_id m body d : List ℕ) where
     unfolding write_of write_vetted
     by_length = ap (write_vetted (length d)) v
 
-    answered : (a : Written) → a ≡ write_length (58 + plain) (length d) → (x : List ℕ) → x ≡ after_writing a (plain_message h comp_id m body) d
+    answered : (a : Result ℕ Refusal) → a ≡ write_length (58 + plain) (length d) → (x : List ℕ) → x ≡ after_writing a (plain_message h comp_id m body) d
         → (a ≡ write_of h comp_id m body d) × (x ≡ written h comp_id m body d)
     unfolding written
     answered a e x q =
         let f : a ≡ write_of h comp_id m body d = e ∙ sym by_length in
-        (f, q ∙ ap (λ (y : Written). after_writing y (plain_message h comp_id m body) d) f)
+        (f, q ∙ ap (λ (y : Result ℕ Refusal). after_writing y (plain_message h comp_id m body) d) f)
 
-    pub write-full : length d < 58 + plain → (Refused (NoRoom (58 + plain)) ≡ write_of h comp_id m body d) × (d ≡ written h comp_id m body d)
+    pub write-full : length d < 58 + plain → (Err (NoRoom (58 + plain)) ≡ write_of h comp_id m body d) × (d ≡ written h comp_id m body d)
     unfolding write_length after_writing
-    write-full r = answered (Refused (NoRoom (58 + plain))) (rw (lt-leb (58 + plain) (length d) r)) d refl
+    write-full r = answered (Err (NoRoom (58 + plain))) (rw (lt-leb (58 + plain) (length d) r)) d refl
 
     pub write_done : length m ≡ 32 → 58 + plain ≤ length d → (x : List ℕ) → x ≡ laid (plain_message h comp_id m body) d
-        → (Wrote (58 + plain) ≡ write_of h comp_id m body d) × (x ≡ written h comp_id m body d)
+        → (Ok (58 + plain) ≡ write_of h comp_id m body d) × (x ≡ written h comp_id m body d)
     unfolding write_length after_writing plain_message
     write_done l r x q =
         let n : length (plain_message h comp_id m body) ≡ 58 + plain =
         length-message h comp_id m (plain_fields (row_of h.messagetype) m body) vetted-text l ∙ ap (λ (k : ℕ). 58 + k) vetted-length in
-        answered (Wrote (58 + plain)) (rw (le-leb (58 + plain) (length d) r)) x
+        answered (Ok (58 + plain)) (rw (le-leb (58 + plain) (length d) r)) x
         (q ∙ laid-there (plain_message h comp_id m body) d (omega arith)
         ∙ ap (λ (k : ℕ). plain_message h comp_id m body ++ drop k d) n)

@@ -3,9 +3,8 @@ use Rattle.std.specs.Prelude.{◌≡◌, List, ℕ}
 use Rattle.tables.specs.Tables.{row_of}
 use Rattle.fields.specs.Value.{value_at, text_at}
 use Rattle.message.specs.declared.frame.Header.{Header}
-use Rattle.message.specs.declared.read.Reading.TheVariants.{Good}
 use Rattle.message.specs.Frame.{comp_id_in, map_in, body_in}
-use Rattle.message.specs.Read.{read_of}
+use Rattle.message.specs.Read.{Good, read_of}
 
 -- the bytes s begin with a good message of n bytes, which has these header values, this Comp ID and this map, and at every position the value and the
 -- text of this body

@@ -3,10 +3,10 @@ use mathlib.Core.Path.{sym, ◌∙◌}
 use Rattle.capi.specs.Reading.{body_c, part_by}
 use Rattle.capi.proofs.read.body_c.Goals as goal
 
-pub returns-in-Good : goal.returns-in-Good
+pub returns-in-Ok : goal.returns-in-Ok
 unfolding body_c part_by
-returns-in-Good c = simp (c.part.ensures, c.after_frame.ensures, sym c.read.ensures ∙ c.in-Good.is)
+returns-in-Ok c = simp (c.part.ensures, c.after_frame.ensures, sym c.read.ensures ∙ c.in-Ok.is)
 
-pub returns-in-Refused : goal.returns-in-Refused
+pub returns-in-Err : goal.returns-in-Err
 unfolding body_c part_by
-returns-in-Refused c = simp (c.no_part.ensures, sym c.read.ensures ∙ c.in-Refused.is)
+returns-in-Err c = simp (c.no_part.ensures, sym c.read.ensures ∙ c.in-Err.is)

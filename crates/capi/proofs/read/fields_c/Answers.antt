@@ -3,14 +3,14 @@ use mathlib.Core.Path.{sym, ◌∙◌}
 use Rattle.capi.specs.Reading.{shown_listed}
 use Rattle.capi.proofs.read.fields_c.Goals as goal
 
-pub returns-in-Good : goal.returns-in-Good
+pub returns-in-Ok : goal.returns-in-Ok
 unfolding shown_listed
-returns-in-Good c =
+returns-in-Ok c =
     let l = c.list_fields.ensures in
-    (simp (c.reading_shown.ensures, sym l.value ∙ c.in-Good.is), l.d_after)
+    (simp (c.reading_shown.ensures, sym l.value ∙ c.in-Ok.is), l.d_after)
 
-pub returns-in-Refused : goal.returns-in-Refused
+pub returns-in-Err : goal.returns-in-Err
 unfolding shown_listed
-returns-in-Refused c =
+returns-in-Err c =
     let l = c.list_fields.ensures in
-    (simp (c.reading_shown-in-Refused.ensures, sym l.value ∙ c.in-Refused.is), l.d_after)
+    (simp (c.reading_shown-in-Err.ensures, sym l.value ∙ c.in-Err.is), l.d_after)

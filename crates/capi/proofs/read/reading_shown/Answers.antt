@@ -2,10 +2,10 @@
 use Rattle.capi.specs.Reading.{shown_reading}
 use Rattle.capi.proofs.read.reading_shown.Goals as goal
 
-pub returns-in-Good : goal.returns-in-Good
+pub returns-in-Ok : goal.returns-in-Ok
 unfolding shown_reading
-returns-in-Good c = simp c.in-Good.is
+returns-in-Ok c = simp c.in-Ok.is
 
-pub returns-in-Refused : goal.returns-in-Refused
+pub returns-in-Err : goal.returns-in-Err
 unfolding shown_reading
-returns-in-Refused c = simp (c.besides.ensures, c.number.ensures, c.in-Refused.is)
+returns-in-Err c = simp (c.besides.ensures, c.number.ensures, c.in-Err.is)

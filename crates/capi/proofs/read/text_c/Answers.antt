@@ -3,12 +3,12 @@ use mathlib.Core.Path.{sym, ◌∙◌}
 use Rattle.capi.specs.Reading.{text_c, text_by}
 use Rattle.capi.proofs.read.text_c.Goals as goal
 
-pub returns-in-At : goal.returns-in-At
+pub returns-in-Ok : goal.returns-in-Ok
 unfolding text_c text_by
-returns-in-At c =
-    simp (c.part.ensures, sym c.find_text.ensures ∙ c.in-At.is)
+returns-in-Ok c =
+    simp (c.part.ensures, sym c.find_text.ensures ∙ c.in-Ok.is)
 
-pub returns-in-Refused : goal.returns-in-Refused
+pub returns-in-Err : goal.returns-in-Err
 unfolding text_c text_by
-returns-in-Refused c =
-    simp (c.no_part.ensures, sym c.find_text.ensures ∙ c.in-Refused.is)
+returns-in-Err c =
+    simp (c.no_part.ensures, sym c.find_text.ensures ∙ c.in-Err.is)

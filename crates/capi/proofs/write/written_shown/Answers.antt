@@ -2,10 +2,10 @@
 use Rattle.capi.specs.Writing.{shown_written}
 use Rattle.capi.proofs.write.written_shown.Goals as goal
 
-pub returns-in-Wrote : goal.returns-in-Wrote
+pub returns-in-Ok : goal.returns-in-Ok
 unfolding shown_written
-returns-in-Wrote c = simp (c.wrote.ensures, c.in-Wrote.is)
+returns-in-Ok c = simp (c.wrote.ensures, c.in-Ok.is)
 
-pub returns-in-Refused : goal.returns-in-Refused
+pub returns-in-Err : goal.returns-in-Err
 unfolding shown_written
-returns-in-Refused c = simp (c.wrote-in-Refused.ensures, c.besides.ensures, c.number.ensures, c.in-Refused.is)
+returns-in-Err c = simp (c.wrote-in-Err.ensures, c.besides.ensures, c.number.ensures, c.in-Err.is)

@@ -7,9 +7,8 @@ use lib.ListN.{length}
 use Rattle.wire.specs.Laying.{laid}
 use Rattle.wire.proofs.TestLaws.{rest_of}
 use Rattle.message.specs.declared.frame.Header.{Header}
-use Rattle.message.specs.declared.read.Reading.TheVariants.{Good}
 use Rattle.message.specs.Frame.{map_in, body_in}
-use Rattle.message.specs.Read.{read_of}
+use Rattle.message.specs.Read.{Good, read_of}
 use Rattle.message.proofs.ListLaws.{fits, listing_start, listing-set, listing-good, listing-below, listing-room, listing-fits, listing-part, listing-on, listing-end, listing-same, listing-within, Entered, enter}
 use Rattle.message.proofs.list.lay_fields.Goals as goal
 

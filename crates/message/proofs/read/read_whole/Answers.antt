@@ -1,5 +1,6 @@
 -- `message::read::read_whole` meets its contract: what the checks 5 to 10 say decides.
-use mathlib.Core.Path.{◌≡◌, sym, subst, ◌∙◌}
+use Rattle.std.proofs.Common.{rules}
+use mathlib.Core.Path.{◌≡◌, sym, subst}
 use mathlib.Core.List.{List}
 use Prim.Native.Nat.{ℕ}
 use lib.Dec.{leb}
@@ -14,24 +15,14 @@ use Rattle.message.proofs.read.read_whole.Goals as goal
 named : (s t : List ℕ) → t ≡ comp_id_in s → leb 1 (length t) ≡ good_comp_id t
 named s t e = sym (subst (λ (x : List ℕ). good_comp_id x ≡ leb 1 (length x)) (sym e) (seen-comp-id s))
 
-pub returns-in-Good : goal.returns-in-Good
+pub returns-in_err-vet_named : goal.returns-in_err-vet_named
 unfolding read_whole read_vetted
-returns-in-Good c =
-    simp (
-      ← c.header_in-header.ensures,
-      ← c.comp_id_in.ensures,
-      ← c.map_in.ensures,
-      ← c.body_in.ensures,
-      sym (c.vet_named.ensures _ (named _ _ c.comp_id_in.ensures)) ∙ c.in-Good.is,
-    )
+returns-in_err-vet_named c =
+    let v = c.vet_named.ensures _ (named _ _ c.comp_id_in.ensures) in
+    search (rules, v)
 
-pub returns-in-Refused : goal.returns-in-Refused
+pub returns : goal.returns
 unfolding read_whole read_vetted
-returns-in-Refused c =
-    simp (
-      ← c.header_in-header.ensures,
-      ← c.comp_id_in.ensures,
-      ← c.map_in.ensures,
-      ← c.body_in.ensures,
-      sym (c.vet_named.ensures _ (named _ _ c.comp_id_in.ensures)) ∙ c.in-Refused.is,
-    )
+returns c =
+    let v = c.vet_named.ensures _ (named _ _ c.comp_id_in.ensures) in
+    search (rules, v)

@@ -2,11 +2,11 @@
 use Rattle.session.specs.Arrival.{arrival_by, message_in}
 use Rattle.session.proofs.arrival.arrival_by.Goals as goal
 
-pub returns-in-Good : goal.returns-in-Good
+pub returns-in-Ok : goal.returns-in-Ok
 unfolding arrival_by message_in
-returns-in-Good c =
-    simp (c.content_in.ensures, c.is_ours.ensures, c.in-Good.is)
+returns-in-Ok c =
+    simp (c.content_in.ensures, c.is_ours.ensures, c.in-Ok.is)
 
-pub returns-in-Refused : goal.returns-in-Refused
+pub returns-in-Err : goal.returns-in-Err
 unfolding arrival_by
-returns-in-Refused c = simp c.in-Refused.is
+returns-in-Err c = simp c.in-Err.is

@@ -17,16 +17,16 @@ pub returns-then-is_due_header-is_ours : goal.returns-then-is_due_header-is_ours
 unfolding due_length due_in
 returns-then-is_due_header-is_ours c =
     let up = is-live c.args.self.state (not-false _ (sym c.ne.ensures ∙ c.if-ne.false)) in
-    simp (up, c.in-Good.is, sym c.is_due_header.ensures, sym c.is_ours.ensures, c.if-is_due_header-is_ours.true)
+    simp (up, c.in-Ok.is, sym c.is_due_header.ensures, sym c.is_ours.ensures, c.if-is_due_header-is_ours.true)
 
 pub returns-else-is_due_header-is_ours : goal.returns-else-is_due_header-is_ours
 unfolding due_length due_in
 returns-else-is_due_header-is_ours c =
     let up = is-live c.args.self.state (not-false _ (sym c.ne.ensures ∙ c.if-ne.false)) in
-    simp (up, c.in-Good.is, sym c.is_due_header.ensures, sym c.is_ours.ensures, c.if-is_due_header-is_ours.false)
+    simp (up, c.in-Ok.is, sym c.is_due_header.ensures, sym c.is_ours.ensures, c.if-is_due_header-is_ours.false)
 
-pub returns-in-Refused : goal.returns-in-Refused
+pub returns-in-Err : goal.returns-in-Err
 unfolding due_length due_in
-returns-in-Refused c =
+returns-in-Err c =
     let up = is-live c.args.self.state (not-false _ (sym c.ne.ensures ∙ c.if-ne.false)) in
-    simp (up, c.in-Refused.is)
+    simp (up, c.in-Err.is)
