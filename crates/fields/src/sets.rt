@@ -72,6 +72,7 @@ pub fn lowest_missing(messagetype: u8, map: &[u8]) -> Option<usize>
     None
 }
 
+// Whether the row names the field. By the names' numbers, as the definition has it: that == says the same was tried, and not proved.
 #[tactic(auto, unfolding(crate::specs::Sets::is_row_of, tables::specs::Line::field_of))]
 fn is_row_of(field: Field, row: Row) -> bool
     ensures { result ≡ is_row_of field row }

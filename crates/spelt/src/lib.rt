@@ -2,7 +2,7 @@
 // a line of text ends.
 #![tactic(auto)]
 
-ghost use Rattle.std.specs.Prelude.{◌≡◌, ◌++◌, ◌+◌, ◌%◌, ◌^◌, ◌≤◌, ◌<◌, nat_abs, length, take, drop};
+ghost use Rattle.std.specs.Prelude.{◌≡◌, ◌++◌, ◌+◌, ◌%◌, ◌^◌, ◌≤◌, ◌<◌, length, take, drop};
 ghost use Rattle.wire.specs.Laying.{laid, laid_answer};
 ghost use Rattle.spelt.specs.Lines.{line_length};
 ghost use Rattle.spelt.specs.Shown.{hex_digit, shown};
@@ -96,23 +96,12 @@ fn put_hundred_millionths(d: &mut [u8], at: usize, n: u64) -> usize
     put_fraction(d, p + 1, rest)
 }
 
-// A Decimal without its sign.
-fn size(z: i64) -> u64
-    ensures { result ≡ nat_abs z }
-{
-    if z < 0 {
-        ((-1 - z) as u64) + 1
-    } else {
-        z as u64
-    }
-}
-
 // A Decimal at the front of d: its length.
 fn spell_amount(d: &mut [u8], z: i64) -> usize
     requires { 30 ≤ length d.old }
     ensures { (result ≤ 30) × (take result d.new ≡ amount_text z) }
 {
-    let n = size(z);
+    let n = z.unsigned_abs();
     if z < 0 {
         d[0] = 45;
         return put_hundred_millionths(d, 1, n);
@@ -133,14 +122,7 @@ pub fn put_amount(d: &mut [u8], z: i64) -> Result<usize, NotLaid>
 pub fn line_length(s: &[u8]) -> usize
     ensures { (result ≡ line_length s.now) × (result ≤ length s.now) }
 {
-    let mut i = 0;
-    while i < s.len() {
-        if s[i] == b'\n' {
-            return i;
-        }
-        i += 1;
-    }
-    i
+    s.iter().position(|b| *b == b'\n').unwrap_or(s.len())
 }
 
 fn hex_digit(n: u8) -> u8

@@ -1,46 +1,16 @@
-use mathlib.Core.Path.{◌≡◌}
-use Prim.Native.Nat.{◌+◌, ◌≤◌, ◌<◌}
-use native.Mathlib.Omega.{arith}
-use lib.ListN.{length, drop}
+-- `spelt::line_length` meets its contract: the place of the first line end, or the length of all.
+use Rattle.std.proofs.Common.{◌≡◌, ◌≤◌, eqb, length, ap, ◌∙◌, sym, subst, rules}
+use Rattle.std.specs.Option.{unwrap_or}
+use Rattle.std.proofs.lemmas.Iterator.{YieldsList-from_slice}
+use Rattle.std.proofs.lemmas.Iterator.Adapters.{position_from-zero}
+use Rattle.std.proofs.lemmas.Iterator.Search.{position_from_yields_List}
 use Rattle.spelt.specs.Lines.{line_length}
-use Rattle.spelt.proofs.LineLaws.{length-here, length_more, length_none}
+use Rattle.spelt.proofs.LineLaws.{line-found, line-within}
 use Rattle.spelt.proofs.line_length.Goals as goal
-
-pub loop-i-init : goal.loop-i-init
-loop-i-init c = (omega arith, omega arith)
-
-pub bounds-s-i : goal.bounds-s-i
-bounds-s-i c = omega arith
-
-pub returns-then-s-i-eq10 : goal.returns-then-s-i-eq10
-returns-then-s-i-eq10 c =
-    let s = c.args.s.now in
-    let i = c.loop-i.i in
-    let h : i ≤ length s = c.loop-i.invariant.0 in
-    let k : i < length s = omega arith in
-    let e : line_length (drop i s) ≡ 0 = length-here s i k c.if-s-i-eq10.true in
-    (omega (arith, c.loop-i.invariant.1), omega arith)
-
-pub overflow_add-i : goal.overflow_add-i
-overflow_add-i c = omega arith
-
-pub loop-i-smaller : goal.loop-i-smaller
-loop-i-smaller c = omega arith
-
-pub loop-i-preserved : goal.loop-i-preserved
-loop-i-preserved c =
-    let s = c.args.s.now in
-    let i = c.loop-i.i in
-    let h : i ≤ length s = c.loop-i.invariant.0 in
-    let k : i < length s = omega arith in
-    let e : line_length (drop i s) ≡ line_length (drop (i + 1) s) + 1 = length_more s i k c.if-s-i-eq10.false in
-    (omega arith, omega (arith, c.loop-i.invariant.1))
 
 pub returns : goal.returns
 returns c =
     let s = c.args.s.now in
-    let i = c.loop-i.i in
-    let h : i ≤ length s = c.loop-i.invariant.0 in
-    let k : length s ≤ i = omega arith in
-    let e : line_length (drop i s) ≡ 0 = length_none s i k in
-    (omega (arith, c.loop-i.invariant.1), omega arith)
+    let p = position_from_yields_List (λ b. eqb b 10) _ _ _ c.position.ensures.ran (YieldsList-from_slice s cc) (λ x b q k. search rules) in
+    let e : c.unwrap_or.result ≡ line_length s = c.unwrap_or.ensures ∙ ap (λ r. unwrap_or r (length s)) (p ∙ position_from-zero _ s) ∙ line-found s in
+    (e, subst (λ n. n ≤ length s) (sym e) (line-within s))

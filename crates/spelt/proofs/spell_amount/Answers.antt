@@ -19,21 +19,21 @@ shape_of-d-then-z-lt0 c =
 pub returns-then-z-lt0 : goal.returns-then-z-lt0
 returns-then-z-lt0 c =
     let p = c.put_hundred_millionths in
-    let n = c.size-n in
+    let n = c.unsigned_abs-n in
     let z = to_z-of_z c.ranges.z in (
       omega (arith, p.ensures.0),
       p.ensures.1
-          ∙ ap₂ (λ (x y : List ℕ). x ++ y) (take-suc-set c.args.d.now 0 45 (omega arith)) (ap hundred_millionths (n.ensures ∙ ap nat_abs z))
+          ∙ ap₂ (λ (x y : List ℕ). x ++ y) (take-suc-set c.args.d.now 0 45 (omega arith)) (ap hundred_millionths (n.ensures.value ∙ ap nat_abs z))
           ∙ sym (amount-neg c.args.z (ap (λ (x : ℤ). lt_z x (pos 0)) (sym z) ∙ c.if-z-lt0.true)),
     )
 
 pub returns : goal.returns
 returns c =
     let p = c.put_hundred_millionths-2 in
-    let n = c.size-n in
+    let n = c.unsigned_abs-n in
     let z = to_z-of_z c.ranges.z in (
       omega (arith, p.ensures.0),
       p.ensures.1
-          ∙ ap hundred_millionths (n.ensures ∙ ap nat_abs z)
+          ∙ ap hundred_millionths (n.ensures.value ∙ ap nat_abs z)
           ∙ sym (amount-pos c.args.z (ap (λ (x : ℤ). lt_z x (pos 0)) (sym z) ∙ c.if-z-lt0.false)),
     )
