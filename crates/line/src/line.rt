@@ -8,7 +8,7 @@ use calls::{Done, Ended, is_heard, steps};
 use message::read::Reading;
 use message::refusal::Refusal;
 use session::day::Made;
-use session::state::{Answer, Code, Halt, Send, Session, State, Stepped};
+use session::state::{Answer, Fault, Halt, Send, Session, State, Stepped, code_number};
 
 // The least and the most seconds of an interval.
 const LEAST_INTERVAL: u32 = 1;
@@ -30,7 +30,7 @@ pub struct Line {
 // What making a line answers: what the day answers, or that its interval is outside the range.
 #[derive(Clone, Copy)]
 pub enum LineCode {
-    Day(Code),
+    Day(Option<Fault>),
     BadInterval,
 }
 
@@ -46,7 +46,7 @@ pub struct LineMade {
 #[derive(Clone, Copy)]
 pub struct LineConnected {
     pub line: Line,
-    pub code: Code,
+    pub code: Option<Fault>,
     pub number: u32,
     pub next: u32,
 }
@@ -70,7 +70,7 @@ pub struct LineDue {
 #[derive(Clone, Copy)]
 pub struct LineDone {
     pub line: Line,
-    pub code: Code,
+    pub code: Option<Fault>,
     pub used: usize,
     pub rows: usize,
     pub sends: usize,
@@ -83,7 +83,7 @@ impl LineCode {
         ensures { result ≡ line_number self }
     {
         match self {
-            LineCode::Day(code) => code.number(),
+            LineCode::Day(code) => code_number(code),
             LineCode::BadInterval => 24,
         }
     }
@@ -126,7 +126,7 @@ fn line_of(made: Made, interval: u32) -> LineMade
 {
     let code = made.code;
     let session = made.session;
-    if code.number() != 0 {
+    if code_number(code) != 0 {
         return not_a_line(LineCode::Day(code));
     }
     if !is_interval(interval) {
@@ -182,7 +182,7 @@ fn is_sending(done: Done) -> bool
     ensures { result ≡ is_sending done }
 {
     let code = done.code;
-    (code.number() == 0) & (done.sends != 0)
+    (code_number(code) == 0) & (done.sends != 0)
 }
 
 // Whether these can be a line's interval, its clock and its waits. They come singly, since there is no line before this holds.
@@ -260,8 +260,8 @@ impl Line {
         let code = made.code;
         let session = made.session;
         let live = is_live(session.state());
-        if !((code.number() == 0) & is_held_line(live, interval, tested, now, sent, heard)) {
-            return not_a_line(LineCode::Day(Code::Halted(Halt::NotASession)));
+        if !((code_number(code) == 0) & is_held_line(live, interval, tested, now, sent, heard)) {
+            return not_a_line(LineCode::Day(Some(Fault::Halted(Halt::NotASession))));
         }
         LineMade {
             code: LineCode::Day(code),

@@ -3,111 +3,95 @@
 
 ghost use Rattle.std.specs.Prelude.{◌≡◌};
 ghost use Rattle.wire.specs.Laying.{Lays};
-ghost use Rattle.names.specs.Lines.{line_of};
 ghost use Rattle.names.specs.Names.{name_of};
 
-use spelt::line_length;
-use tables::dictionary::{Field, row_number};
+use tables::dictionary::Field;
 use wire::laying::{NotLaid, put_bytes};
 
-// Line n of s, counted from 0, without its line end; empty where there is none.
-fn line<'a>(s: &'a [u8], n: usize) -> &'a [u8]
-    ensures { result.now ≡ line_of n s.now }
+// A field's name; the dash of Time In Force is U+2013.
+fn name(field: Field) -> &'static str
+    ensures { result.now ≡ name_of field }
 {
-    let mut rest = s;
-    let mut left = n;
-    while 0 < left {
-        let k = line_length(rest);
-        if k == rest.len() {
-            return &rest[..0];
-        }
-        let next = k + 1;
-        rest = &rest[next..];
-        left -= 1;
+    match field {
+        Field::AggressorIndicator => "Aggressor Indicator",
+        Field::BrokerLocationId => "Broker Location ID",
+        Field::BusinessRejectCode => "Business Reject Code",
+        Field::BusinessRejectReferenceId => "Business Reject Reference ID",
+        Field::ClearingInstruction => "Clearing Instruction",
+        Field::ClientOrderId => "Client Order ID",
+        Field::CopyMessageIndicator => "Copy Message Indicator",
+        Field::CounterpartyBrokerId => "Counterparty Broker ID",
+        Field::CumulativeQuantity => "Cumulative Quantity",
+        Field::EndSequence => "End Sequence",
+        Field::ExecType => "Exec Type",
+        Field::ExecutionId => "Execution ID",
+        Field::ExecutionPrice => "Execution Price",
+        Field::ExecutionQuantity => "Execution Quantity",
+        Field::ExecRestatementReason => "Exec Restatement Reason",
+        Field::ExchangeTradeType => "Exchange Trade Type",
+        Field::GapFill => "Gap Fill",
+        Field::LeavesQuantity => "Leaves Quantity",
+        Field::LogoutText => "Logout Text",
+        Field::LookupRejectCode => "Lookup Reject Code",
+        Field::LotType => "Lot Type",
+        Field::MatchType => "Match Type",
+        Field::MaxPriceLevels => "Max Price Levels",
+        Field::MessageRejectCode => "Message Reject Code",
+        Field::NewPassword => "New Password",
+        Field::NewSequenceNumber => "New Sequence Number",
+        Field::NextExpectedMessageSequence => "Next Expected Message Sequence",
+        Field::OrderId => "Order ID",
+        Field::OwningBrokerId => "Owning Broker ID",
+        Field::OrderQuantity => "Order Quantity",
+        Field::OrderStatus => "Order Status",
+        Field::OrderType => "Order Type",
+        Field::OrderRestrictions => "Order Restrictions",
+        Field::OrderCapacity => "Order Capacity",
+        Field::OrderCategory => "Order Category",
+        Field::OriginalClientOrderId => "Original Client Order ID",
+        Field::Password => "Password",
+        Field::PositionEffect => "Position Effect",
+        Field::Price => "Price",
+        Field::ProtocolType => "Protocol Type",
+        Field::PrimaryIp => "Primary IP",
+        Field::PrimaryPort => "Primary Port",
+        Field::ReferenceExecutionId => "Reference Execution ID",
+        Field::ReferenceFieldName => "Reference Field Name",
+        Field::ReferenceMessageType => "Reference Message Type",
+        Field::ReferenceSequenceNumber => "Reference Sequence Number",
+        Field::ReferenceTestRequestId => "Reference Test Request ID",
+        Field::Reason => "Reason",
+        Field::SecurityExchange => "Security Exchange",
+        Field::SecurityId => "Security ID",
+        Field::SecurityIdSource => "Security ID Source",
+        Field::SecondaryIp => "Secondary IP",
+        Field::SecondaryPort => "Secondary Port",
+        Field::SessionStatus => "Session Status",
+        Field::Side => "Side",
+        Field::SmpId => "SMP ID",
+        Field::StartSequence => "Start Sequence",
+        Field::Status => "Status",
+        Field::SubmittingBrokerId => "Submitting Broker ID",
+        Field::Text => "Text",
+        Field::TimeInForce => "Time In Force – TIF",
+        Field::TestMessageIndicator => "Test Message Indicator",
+        Field::TestRequestId => "Test Request ID",
+        Field::TransactionTime => "Transaction Time",
+        Field::TradeType => "Trade Type",
+        Field::TradeReportId => "Trade Report ID",
+        Field::TradeReportTransType => "Trade Report Trans Type",
+        Field::TradeReportType => "Trade Report Type",
+        Field::TradeReportStatus => "Trade Report Status",
+        Field::TradeId => "Trade ID",
+        Field::TradeMatchId => "Trade Match ID",
+        Field::TradeHandlingInstructions => "Trade Handling Instructions",
+        Field::TypeOfService => "Type of Service",
     }
-    let k = line_length(rest);
-    &rest[..k]
 }
 
-// A field's name at the front of a lent buffer. The names stand a line each from line 1 on, in the order of 004 section 8.2;
-// the dash of Time In Force is U+2013, three bytes in UTF-8.
+// A field's name at the front of a lent buffer.
 pub fn put_name(d: &mut [u8], field: Field) -> Result<usize, NotLaid>
     ensures { Lays (name_of field) d.old result d.new }
 {
-    let names = b"
-Aggressor Indicator
-Broker Location ID
-Business Reject Code
-Business Reject Reference ID
-Clearing Instruction
-Client Order ID
-Copy Message Indicator
-Counterparty Broker ID
-Cumulative Quantity
-End Sequence
-Exec Type
-Execution ID
-Execution Price
-Execution Quantity
-Exec Restatement Reason
-Exchange Trade Type
-Gap Fill
-Leaves Quantity
-Logout Text
-Lookup Reject Code
-Lot Type
-Match Type
-Max Price Levels
-Message Reject Code
-New Password
-New Sequence Number
-Next Expected Message Sequence
-Order ID
-Owning Broker ID
-Order Quantity
-Order Status
-Order Type
-Order Restrictions
-Order Capacity
-Order Category
-Original Client Order ID
-Password
-Position Effect
-Price
-Protocol Type
-Primary IP
-Primary Port
-Reference Execution ID
-Reference Field Name
-Reference Message Type
-Reference Sequence Number
-Reference Test Request ID
-Reason
-Security Exchange
-Security ID
-Security ID Source
-Secondary IP
-Secondary Port
-Session Status
-Side
-SMP ID
-Start Sequence
-Status
-Submitting Broker ID
-Text
-Time In Force \xE2\x80\x93 TIF
-Test Message Indicator
-Test Request ID
-Transaction Time
-Trade Type
-Trade Report ID
-Trade Report Trans Type
-Trade Report Type
-Trade Report Status
-Trade ID
-Trade Match ID
-Trade Handling Instructions
-Type of Service
-";
-    put_bytes(d, line(names, row_number(field)))
+    put_bytes(d, name(field).as_bytes())
 }

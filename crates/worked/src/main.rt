@@ -18,7 +18,7 @@ use message::ask::{ask_number, ask_number_of, ask_text, text};
 use message::read::{Reading, body, comp_id, map, read};
 use message::refusal::Refusal;
 use session::day::{Connected, Made};
-use session::state::{Row, Send, Session, State, Stepped};
+use session::state::{Row, Send, Session, State, Stepped, code_number};
 use spelt::put_shown;
 use std::io;
 use std::io::Read;
@@ -208,7 +208,7 @@ fn print_session(rt: &impl Print, s: Session) -> io::Result<()> {
 }
 
 fn made(rt: &impl Print, made: Made) -> io::Result<Session> {
-    print!(rt; "code {}: ", made.code.number())?;
+    print!(rt; "code {}: ", code_number(made.code))?;
     print_session(rt, made.session)?;
     Ok(made.session)
 }
@@ -217,7 +217,7 @@ fn connected(rt: &impl Print, connected: Connected) -> io::Result<Session> {
     let code = connected.code;
     print!(rt;
         "code {} logon {} {}: ",
-        code.number(),
+        code_number(code),
         connected.number,
         connected.next
     )?;
@@ -227,7 +227,7 @@ fn connected(rt: &impl Print, connected: Connected) -> io::Result<Session> {
 
 fn stepped(rt: &impl Print, stepped: Stepped) -> io::Result<Session> {
     let answer = stepped.answer;
-    print!(rt; "code {} send ", answer.code.number())?;
+    print!(rt; "code {} send ", code_number(answer.code))?;
     print_send(rt, answer.first)?;
     rt.print(", ")?;
     print_send(rt, answer.second)?;
