@@ -1,5 +1,5 @@
 // A line with a clock, by value: checked on every call, and handed back as it was where the check refuses it.
-ghost use Rattle.std.specs.Prelude.{◌≡◌, cond};
+ghost use Rattle.std.specs.Prelude.{◌≡◌};
 ghost use Rattle.message.specs.Frame.{front_length};
 ghost use Rattle.line.specs.Line.{step_line};
 ghost use Rattle.line.specs.Turn.{due_stepped};
@@ -7,11 +7,12 @@ ghost use Rattle.capi.specs.Sessions.{not_a_session};
 ghost use Rattle.capi.specs.Lines.{shown_line, held_in, line_made, shown_line_made, fresh_line_c, saved_line_c, shown_line_connected, connect_line_c, drop_line_c, shown_line_stepped, no_send, not_stepped_line, step_line_c, shown_line_done, TakesLineC, act_number, act_send, shown_ticked, tick_c, shown_next, next_tick_c};
 
 use crate::sessions::{
-    SEND_BARE_HEARTBEAT, SEND_TEST_REQUEST, ended_besides, ended_code, ended_number, row_shown,
-    send_shown, session_in, session_shown, to_send, used_by,
+    SEND_BARE_HEARTBEAT, SEND_TEST_REQUEST, ended_besides, ended_code, ended_number, session_in,
+    to_send, used_by,
 };
 use crate::shape::{
-    CLine, CLineConnected, CLineDone, CLineMade, CLineStepped, CNextTick, CRow, CSend, CTicked,
+    CLine, CLineConnected, CLineDone, CLineMade, CLineStepped, CNextTick, CRow, CSend, CSession,
+    CTicked,
 };
 use line::line::{Line, LineConnected, LineDone, LineMade, LineStepped};
 use line::tick::{Act, Ticked};
@@ -20,24 +21,20 @@ use message::read::read;
 use session::held::LIVE;
 use session::state::{ROW_BUSINESS, Row, SEND_NONE, code_besides, code_number};
 
-fn line_shown(l: Line) -> CLine
-    ensures { result ≡ shown_line l }
-{
-    let session = l.session();
-    CLine {
-        session: session_shown(session),
-        interval: l.interval(),
-        tested: flag(l.tested()),
-        now: l.now(),
-        sent: l.sent(),
-        heard: l.heard(),
-    }
-}
+impl From<Line> for CLine {
+    ghost from_gives = { λ l r. r ≡ shown_line l };
 
-fn flag(b: bool) -> u32
-    ensures { result ≡ cond b 1 0 }
-{
-    if b { 1 } else { 0 }
+    fn from(l: Line) -> CLine {
+        let session = l.session();
+        CLine {
+            session: CSession::from(session),
+            interval: l.interval(),
+            tested: u32::from(l.tested()),
+            now: l.now(),
+            sent: l.sent(),
+            heard: l.heard(),
+        }
+    }
 }
 
 // The line that was handed in, or 90.
@@ -61,12 +58,14 @@ fn line_made(refusal: u32, line: CLine) -> CLineMade
     CLineMade { refusal, line }
 }
 
-fn line_made_shown(m: LineMade) -> CLineMade
-    ensures { result ≡ shown_line_made m }
-{
-    let line = m.line;
-    let code = m.code;
-    line_made(code.number(), line_shown(line))
+impl From<LineMade> for CLineMade {
+    ghost from_gives = { λ m r. r ≡ shown_line_made m };
+
+    fn from(m: LineMade) -> CLineMade {
+        let line = m.line;
+        let code = m.code;
+        line_made(code.number(), CLine::from(line))
+    }
 }
 
 fn no_send() -> CSend
@@ -79,27 +78,29 @@ fn no_send() -> CSend
 pub fn line_fresh_c(comp: &[u8], interval: u32) -> CLineMade
     ensures { result ≡ fresh_line_c comp.now interval }
 {
-    line_made_shown(Line::fresh(comp, interval))
+    CLineMade::from(Line::fresh(comp, interval))
 }
 
 // A saved day with an interval.
 pub fn line_saved_c(comp: &[u8], e: u32, o: u32, interval: u32) -> CLineMade
     ensures { result ≡ saved_line_c comp.now e o interval }
 {
-    line_made_shown(Line::saved(comp, e, o, interval))
+    CLineMade::from(Line::saved(comp, e, o, interval))
 }
 
-fn line_connected_shown(x: LineConnected) -> CLineConnected
-    ensures { result ≡ shown_line_connected x }
-{
-    let line = x.line;
-    let code = x.code;
-    CLineConnected {
-        refusal: code_number(code),
-        line: line_shown(line),
-        number: x.number,
-        next: x.next,
-        besides: code_besides(code),
+impl From<LineConnected> for CLineConnected {
+    ghost from_gives = { λ x r. r ≡ shown_line_connected x };
+
+    fn from(x: LineConnected) -> CLineConnected {
+        let line = x.line;
+        let code = x.code;
+        CLineConnected {
+            refusal: code_number(code),
+            line: CLine::from(line),
+            number: x.number,
+            next: x.next,
+            besides: code_besides(code),
+        }
     }
 }
 
@@ -120,7 +121,7 @@ pub fn line_connect_c(c: CLine, t: u64, password: &[u8]) -> CLineConnected
             besides: 0,
         };
     }
-    line_connected_shown(line.connect(t, password))
+    CLineConnected::from(line.connect(t, password))
 }
 
 // The line is gone at a time.
@@ -134,7 +135,7 @@ pub fn line_drop_c(c: CLine, t: u64) -> CLineMade
     if refusal != 0 {
         return line_made(refusal, c);
     }
-    line_made(0, line_shown(line.drop(t)))
+    line_made(0, CLine::from(line.drop(t)))
 }
 
 fn line_stepped_shown(x: LineStepped, used: usize) -> CLineStepped
@@ -148,10 +149,10 @@ fn line_stepped_shown(x: LineStepped, used: usize) -> CLineStepped
     let code = answer.code;
     CLineStepped {
         refusal: code_number(code),
-        line: line_shown(line),
-        first: send_shown(first),
-        second: send_shown(second),
-        row: row_shown(row),
+        line: CLine::from(line),
+        first: CSend::from(first),
+        second: CSend::from(second),
+        row: CRow::from(row),
         used,
         besides: code_besides(code),
     }
@@ -165,7 +166,7 @@ fn line_not_stepped(c: CLine, refusal: u32) -> CLineStepped
         line: c,
         first: no_send(),
         second: no_send(),
-        row: row_shown(Row::Nothing),
+        row: CRow::from(Row::Nothing),
         used: 0,
         besides: 0,
     }
@@ -177,7 +178,7 @@ fn line_in_turn(line: Line, e: u32, used: usize) -> CLineStepped
 {
     CLineStepped {
         refusal: 0,
-        line: line_shown(line),
+        line: CLine::from(line),
         first: no_send(),
         second: no_send(),
         row: CRow {
@@ -222,21 +223,23 @@ pub fn line_step_c(c: CLine, t: u64, s: &[u8]) -> CLineStepped
     line_stepped_shown(line.step(t, s), used_by(session.state, s))
 }
 
-fn line_done_shown(x: LineDone) -> CLineDone
-    ensures { result ≡ shown_line_done x }
-{
-    let line = x.line;
-    let ended = x.ended;
-    let code = x.code;
-    CLineDone {
-        refusal: code_number(code),
-        line: line_shown(line),
-        used: x.used,
-        rows: x.rows,
-        sends: x.sends,
-        ended: ended_number(ended),
-        code: ended_code(ended),
-        besides: ended_besides(ended),
+impl From<LineDone> for CLineDone {
+    ghost from_gives = { λ x r. r ≡ shown_line_done x };
+
+    fn from(x: LineDone) -> CLineDone {
+        let line = x.line;
+        let ended = x.ended;
+        let code = x.code;
+        CLineDone {
+            refusal: code_number(code),
+            line: CLine::from(line),
+            used: x.used,
+            rows: x.rows,
+            sends: x.sends,
+            ended: ended_number(ended),
+            code: ended_code(ended),
+            besides: ended_besides(ended),
+        }
     }
 }
 
@@ -260,7 +263,7 @@ pub fn line_steps_c(c: CLine, t: u64, s: &[u8], rows: &mut [u32], sends: &mut [u
             besides: 0,
         };
     }
-    line_done_shown(line.steps(t, s, rows, sends))
+    CLineDone::from(line.steps(t, s, rows, sends))
 }
 
 fn act_number(act: Option<Act>) -> u32
@@ -289,17 +292,19 @@ fn act_send(act: Option<Act>) -> CSend
     }
 }
 
-fn ticked_shown(x: Ticked) -> CTicked
-    ensures { result ≡ shown_ticked x }
-{
-    let line = x.line;
-    let code = x.code;
-    let act = x.act;
-    CTicked {
-        refusal: code_number(code),
-        act: act_number(act),
-        line: line_shown(line),
-        send: act_send(act),
+impl From<Ticked> for CTicked {
+    ghost from_gives = { λ x r. r ≡ shown_ticked x };
+
+    fn from(x: Ticked) -> CTicked {
+        let line = x.line;
+        let code = x.code;
+        let act = x.act;
+        CTicked {
+            refusal: code_number(code),
+            act: act_number(act),
+            line: CLine::from(line),
+            send: act_send(act),
+        }
     }
 }
 
@@ -319,23 +324,25 @@ pub fn line_tick_c(c: CLine, t: u64) -> CTicked
             send: no_send(),
         };
     }
-    ticked_shown(line.tick(t))
+    CTicked::from(line.tick(t))
 }
 
-fn next_shown(x: Option<u64>) -> CNextTick
-    ensures { result ≡ shown_next x }
-{
-    match x {
-        Some(time) => CNextTick {
-            refusal: 0,
-            due: 1,
-            time,
-        },
-        None => CNextTick {
-            refusal: 0,
-            due: 0,
-            time: 0,
-        },
+impl From<Option<u64>> for CNextTick {
+    ghost from_gives = { λ x r. r ≡ shown_next x };
+
+    fn from(x: Option<u64>) -> CNextTick {
+        match x {
+            Some(time) => CNextTick {
+                refusal: 0,
+                due: 1,
+                time,
+            },
+            None => CNextTick {
+                refusal: 0,
+                due: 0,
+                time: 0,
+            },
+        }
     }
 }
 
@@ -354,5 +361,5 @@ pub fn line_next_tick_c(c: CLine) -> CNextTick
             time: 0,
         };
     }
-    next_shown(line.next_tick())
+    CNextTick::from(line.next_tick())
 }

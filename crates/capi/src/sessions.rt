@@ -11,7 +11,7 @@ ghost use Rattle.capi.specs.Steps.{ended_in, shown_done, TakesC};
 ghost use Rattle.capi.specs.Sessions.{shown_session, session_in, not_a_session, made, shown_made, fresh_c, saved_c, shown_connected, connect_c, drop_c, to_send, shown_send, shown_row, shown_stepped, not_stepped, used_by, step_c, is_our_number, is_send, send_by, sent_by, SendsC, LogsOnC};
 
 use crate::shape::{CConnected, CDone, CMade, CRow, CSend, CSession, CStepped, CWritten};
-use crate::write::{written_shown, wrote};
+use crate::write::wrote;
 use calls::{Done, Ended, steps};
 use line::tick::id_of;
 use message::frame::{COMP_ID_BYTES, front_length};
@@ -37,17 +37,19 @@ pub(crate) const SEND_TEST_REQUEST: u32 = 5;
 
 pub(crate) const SEND_BARE_HEARTBEAT: u32 = 6;
 
-pub(crate) fn session_shown(s: Session) -> CSession
-    ensures { result ≡ shown_session s }
-{
-    let state = s.state();
-    CSession {
-        state: state.number(),
-        ours: s.ours(),
-        expected: s.expected(),
-        own: s.own(),
-        ahead: s.ahead(),
-        repeats: s.repeats(),
+impl From<Session> for CSession {
+    ghost from_gives = { λ s r. r ≡ shown_session s };
+
+    fn from(s: Session) -> CSession {
+        let state = s.state();
+        CSession {
+            state: state.number(),
+            ours: s.ours(),
+            expected: s.expected(),
+            own: s.own(),
+            ahead: s.ahead(),
+            repeats: s.repeats(),
+        }
     }
 }
 
@@ -65,39 +67,43 @@ fn made(refusal: u32, session: CSession) -> CMade
     CMade { refusal, session }
 }
 
-fn made_shown(m: Made) -> CMade
-    ensures { result ≡ shown_made m }
-{
-    let s = m.session;
-    let code = m.code;
-    made(code_number(code), session_shown(s))
+impl From<Made> for CMade {
+    ghost from_gives = { λ m r. r ≡ shown_made m };
+
+    fn from(m: Made) -> CMade {
+        let s = m.session;
+        let code = m.code;
+        made(code_number(code), CSession::from(s))
+    }
 }
 
 // A fresh day.
 pub fn fresh_c(comp: &[u8]) -> CMade
     ensures { result ≡ fresh_c comp.now }
 {
-    made_shown(Session::fresh(comp))
+    CMade::from(Session::fresh(comp))
 }
 
 // A day that goes on from saved E and O.
 pub fn saved_c(comp: &[u8], e: u32, o: u32) -> CMade
     ensures { result ≡ saved_c comp.now e o }
 {
-    made_shown(Session::saved(comp, e, o))
+    CMade::from(Session::saved(comp, e, o))
 }
 
-fn connected_shown(x: Connected) -> CConnected
-    ensures { result ≡ shown_connected x }
-{
-    let s = x.session;
-    let code = x.code;
-    CConnected {
-        refusal: code_number(code),
-        session: session_shown(s),
-        number: x.number,
-        next: x.next,
-        besides: code_besides(code),
+impl From<Connected> for CConnected {
+    ghost from_gives = { λ x r. r ≡ shown_connected x };
+
+    fn from(x: Connected) -> CConnected {
+        let s = x.session;
+        let code = x.code;
+        CConnected {
+            refusal: code_number(code),
+            session: CSession::from(s),
+            number: x.number,
+            next: x.next,
+            besides: code_besides(code),
+        }
     }
 }
 
@@ -118,7 +124,7 @@ pub fn connect_c(c: CSession, password: &[u8]) -> CConnected
             besides: 0,
         };
     }
-    connected_shown(session.connect(password))
+    CConnected::from(session.connect(password))
 }
 
 // The line is gone.
@@ -132,7 +138,7 @@ pub fn drop_c(c: CSession) -> CMade
     if refusal != 0 {
         return made(refusal, c);
     }
-    made(0, session_shown(session.drop()))
+    made(0, CSession::from(session.drop()))
 }
 
 pub(crate) fn to_send(kind: u32, number: u32, first: u32, second: u32) -> CSend
@@ -146,20 +152,24 @@ pub(crate) fn to_send(kind: u32, number: u32, first: u32, second: u32) -> CSend
     }
 }
 
-pub(crate) fn send_shown(x: Send) -> CSend
-    ensures { result ≡ shown_send x }
-{
-    let t = told(x);
-    to_send(t.kind, t.number, t.first, t.second)
+impl From<Send> for CSend {
+    ghost from_gives = { λ x r. r ≡ shown_send x };
+
+    fn from(x: Send) -> CSend {
+        let t = told(x);
+        to_send(t.kind, t.number, t.first, t.second)
+    }
 }
 
-pub(crate) fn row_shown(row: Row) -> CRow
-    ensures { result ≡ shown_row row }
-{
-    CRow {
-        kind: sort_number(row),
-        first: first_of(row),
-        last: last_of(row),
+impl From<Row> for CRow {
+    ghost from_gives = { λ row r. r ≡ shown_row row };
+
+    fn from(row: Row) -> CRow {
+        CRow {
+            kind: sort_number(row),
+            first: first_of(row),
+            last: last_of(row),
+        }
     }
 }
 
@@ -174,10 +184,10 @@ fn stepped_shown(x: Stepped, used: usize) -> CStepped
     let code = answer.code;
     CStepped {
         refusal: code_number(code),
-        session: session_shown(s),
-        first: send_shown(first),
-        second: send_shown(second),
-        row: row_shown(row),
+        session: CSession::from(s),
+        first: CSend::from(first),
+        second: CSend::from(second),
+        row: CRow::from(row),
         used,
         besides: code_besides(code),
     }
@@ -191,7 +201,7 @@ fn not_stepped(c: CSession, refusal: u32) -> CStepped
         session: c,
         first: to_send(SEND_NONE, 0, 0, 0),
         second: to_send(SEND_NONE, 0, 0, 0),
-        row: row_shown(Row::Nothing),
+        row: CRow::from(Row::Nothing),
         used: 0,
         besides: 0,
     }
@@ -297,21 +307,23 @@ pub(crate) fn ended_besides(ended: Ended) -> usize
     }
 }
 
-fn done_shown(x: Done) -> CDone
-    ensures { result ≡ shown_done x }
-{
-    let s = x.session;
-    let ended = x.ended;
-    let code = x.code;
-    CDone {
-        refusal: code_number(code),
-        session: session_shown(s),
-        used: x.used,
-        rows: x.rows,
-        sends: x.sends,
-        ended: ended_number(ended),
-        code: ended_code(ended),
-        besides: ended_besides(ended),
+impl From<Done> for CDone {
+    ghost from_gives = { λ x r. r ≡ shown_done x };
+
+    fn from(x: Done) -> CDone {
+        let s = x.session;
+        let ended = x.ended;
+        let code = x.code;
+        CDone {
+            refusal: code_number(code),
+            session: CSession::from(s),
+            used: x.used,
+            rows: x.rows,
+            sends: x.sends,
+            ended: ended_number(ended),
+            code: ended_code(ended),
+            besides: ended_besides(ended),
+        }
     }
 }
 
@@ -335,7 +347,7 @@ pub fn steps_c(c: CSession, s: &[u8], rows: &mut [u32], sends: &mut [u32]) -> CD
             besides: 0,
         };
     }
-    done_shown(steps(session, s, rows, sends))
+    CDone::from(steps(session, s, rows, sends))
 }
 
 // Whether a message of ours can bear this number.
@@ -374,12 +386,14 @@ fn put_send(d: &mut [u8], x: CSend, comp: &[u8]) -> CWritten
     let kind = x.kind;
     match kind {
         SEND_NONE => wrote(0, 0, 0),
-        SEND_HEARTBEAT => { written_shown(put_heartbeat_for(d, comp, x.number, x.first as u16)) }
-        SEND_LOGOUT => written_shown(put_logout(d, comp, x.number)),
-        SEND_GAP_FILL => written_shown(put_gap_fill(d, comp, x.number, x.first)),
-        SEND_TEST_REQUEST => { written_shown(put_test_request(d, comp, x.number, id_of(x.number))) }
-        SEND_BARE_HEARTBEAT => written_shown(put_heartbeat(d, comp, x.number)),
-        _ => written_shown(put_resend_request(d, comp, x.number, x.first, x.second)),
+        SEND_HEARTBEAT => { CWritten::from(put_heartbeat_for(d, comp, x.number, x.first as u16)) }
+        SEND_LOGOUT => CWritten::from(put_logout(d, comp, x.number)),
+        SEND_GAP_FILL => CWritten::from(put_gap_fill(d, comp, x.number, x.first)),
+        SEND_TEST_REQUEST => {
+            CWritten::from(put_test_request(d, comp, x.number, id_of(x.number)))
+        }
+        SEND_BARE_HEARTBEAT => CWritten::from(put_heartbeat(d, comp, x.number)),
+        _ => CWritten::from(put_resend_request(d, comp, x.number, x.first, x.second)),
     }
 }
 
@@ -414,7 +428,7 @@ pub fn logon_c(d: &mut [u8], c: CSession, password: &[u8]) -> CWritten
         return wrote(NOT_A_SEND, 0, 0);
     }
     let ours = c.ours;
-    written_shown(put_logon(
+    CWritten::from(put_logon(
         d,
         fixed_part(Allowed::Ascii, COMP_ID_BYTES, &ours),
         c.own - 1,

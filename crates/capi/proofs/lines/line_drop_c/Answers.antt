@@ -13,4 +13,4 @@ pub returns : goal.returns
 unfolding drop_line_c
 returns c =
     let t = taken-line _ c.line_in-held.result c.number-refusal.result c.line_in-held.ensures c.number-refusal.ensures c.if-refusal-ne0.false in
-    simp (c.line_made-2.ensures, c.line_shown.ensures, c.drop.ensures, t.line, t.passes)
+    simp (c.line_made-2.ensures, c.from.ensures, c.drop.ensures, t.line, t.passes)

@@ -4,4 +4,4 @@ use Rattle.capi.proofs.lines.line_fresh_c.Goals as goal
 
 pub returns : goal.returns
 unfolding fresh_line_c
-returns c = simp (c.line_made_shown.ensures, c.fresh.ensures)
+returns c = simp (c.from.ensures, c.fresh.ensures)

@@ -6,4 +6,4 @@ use Rattle.capi.proofs.lines.line_in_turn.Goals as goal
 
 pub returns : goal.returns
 unfolding shown_line_stepped code_number code_besides shown_send told shown_row sort_number first_of last_of
-returns c = simp (c.no_send-2.ensures, c.no_send.ensures, c.line_shown.ensures)
+returns c = simp (c.no_send-2.ensures, c.no_send.ensures, c.from.ensures)

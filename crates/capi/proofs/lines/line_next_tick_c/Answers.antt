@@ -13,4 +13,4 @@ pub returns : goal.returns
 unfolding next_tick_c
 returns c =
     let t = taken-line _ c.line_in-held.result c.number-refusal.result c.line_in-held.ensures c.number-refusal.ensures c.if-refusal-ne0.false in
-    simp (c.next_shown.ensures, c.next_tick.ensures, t.line, t.passes)
+    simp (c.from.ensures, c.next_tick.ensures, t.line, t.passes)

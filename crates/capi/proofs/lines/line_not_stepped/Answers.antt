@@ -5,4 +5,4 @@ use Rattle.capi.proofs.lines.line_not_stepped.Goals as goal
 
 pub returns : goal.returns
 unfolding shown_row sort_number first_of last_of
-returns c = λ e. simp (c.row_shown.ensures, c.no_send-2.ensures, c.no_send.ensures, e)
+returns c = λ e. simp (c.from.ensures, c.no_send-2.ensures, c.no_send.ensures, e)

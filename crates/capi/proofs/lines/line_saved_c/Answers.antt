@@ -4,4 +4,4 @@ use Rattle.capi.proofs.lines.line_saved_c.Goals as goal
 
 pub returns : goal.returns
 unfolding saved_line_c
-returns c = simp (c.line_made_shown.ensures, c.saved.ensures)
+returns c = simp (c.from.ensures, c.saved.ensures)

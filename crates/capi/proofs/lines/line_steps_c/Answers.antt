@@ -14,4 +14,4 @@ unfolding steps_line_c rows_line_c sends_line_c
 returns c =
     let t = taken-line _ c.line_in-held.result c.number-refusal.result c.line_in-held.ensures c.number-refusal.ensures c.if-refusal-ne0.false in
     let e = c.steps.ensures in
-    (simp (c.line_done_shown.ensures, e.0, t.line, t.passes), simp (e.1, t.line, t.passes), simp (e.2, t.line, t.passes))
+    (simp (c.from.ensures, e.0, t.line, t.passes), simp (e.1, t.line, t.passes), simp (e.2, t.line, t.passes))

@@ -4,4 +4,4 @@ use Rattle.capi.specs.Planning.{shown_planned}
 use Rattle.capi.proofs.planning.join_c.Goals as goal
 
 pub returns : goal.returns
-returns c = (c.planned_shown.ensures ∙ ap shown_planned c.join.ensures.0, c.join.ensures.1)
+returns c = (c.from.ensures ∙ ap shown_planned c.join.ensures.0, c.join.ensures.1)

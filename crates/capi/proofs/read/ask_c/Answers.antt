@@ -4,4 +4,4 @@ use Rattle.capi.proofs.read.ask_c.Goals as goal
 
 pub returns : goal.returns
 unfolding ask_c
-returns c = simp (c.value_shown.ensures, c.ask_number.ensures)
+returns c = simp (c.from.ensures, c.ask_number.ensures)

@@ -7,10 +7,10 @@ pub returns-in-Ok : goal.returns-in-Ok
 unfolding shown_listed
 returns-in-Ok c =
     let l = c.list_fields.ensures in
-    (simp (c.reading_shown.ensures, sym l.value ∙ c.in-Ok.is), l.d_after)
+    (simp (c.from.ensures, sym l.value ∙ c.in-Ok.is), l.d_after)
 
 pub returns-in-Err : goal.returns-in-Err
 unfolding shown_listed
 returns-in-Err c =
     let l = c.list_fields.ensures in
-    (simp (c.reading_shown-in-Err.ensures, sym l.value ∙ c.in-Err.is), l.d_after)
+    (simp (c.from-in-Err.ensures, sym l.value ∙ c.in-Err.is), l.d_after)

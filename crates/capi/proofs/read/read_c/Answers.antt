@@ -4,4 +4,4 @@ use Rattle.capi.proofs.read.read_c.Goals as goal
 
 pub returns : goal.returns
 unfolding read_c
-returns c = simp (c.reading_shown.ensures, c.read.ensures)
+returns c = simp (c.from.ensures, c.read.ensures)

@@ -15,4 +15,4 @@ unfolding connect_c
 returns c =
     let a = c.args in
     let t = taken a.c c.session_in-held.result c.code_number-refusal.result c.session_in-held.ensures c.code_number-refusal.ensures c.if-refusal-ne0.false in
-    simp (c.connected_shown.ensures, c.connect.ensures, t.session, t.passes)
+    simp (c.from.ensures, c.connect.ensures, t.session, t.passes)

@@ -15,4 +15,4 @@ unfolding drop_c
 returns c =
     let a = c.args in
     let t = taken a.c c.session_in-held.result c.code_number-refusal.result c.session_in-held.ensures c.code_number-refusal.ensures c.if-refusal-ne0.false in
-    simp (c.made-2.ensures, c.session_shown.ensures, c.drop.ensures, t.session, t.passes)
+    simp (c.made-2.ensures, c.from.ensures, c.drop.ensures, t.session, t.passes)

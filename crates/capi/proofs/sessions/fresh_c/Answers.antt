@@ -4,4 +4,4 @@ use Rattle.capi.proofs.sessions.fresh_c.Goals as goal
 
 pub returns : goal.returns
 unfolding fresh_c
-returns c = simp (c.made_shown.ensures, c.fresh.ensures)
+returns c = simp (c.from.ensures, c.fresh.ensures)

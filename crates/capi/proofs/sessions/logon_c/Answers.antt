@@ -33,4 +33,4 @@ returns c =
     let t = taken a.c c.session_in-held.result c.code_number-refusal.result c.session_in-held.ensures c.code_number-refusal.ensures c.if-refusal-ne0.false in
     let f = c.fixed_part.ensures in
     let l = eq-eqb _ 1 c.if-c-ne-WAITING.false in
-    (simp (c.written_shown.ensures, c.put_logon.ensures.value, f, t.passes, l), simp (c.put_logon.ensures.d_after, f, t.passes, l))
+    (simp (c.from.ensures, c.put_logon.ensures.value, f, t.passes, l), simp (c.put_logon.ensures.d_after, f, t.passes, l))

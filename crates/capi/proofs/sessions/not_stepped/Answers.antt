@@ -5,4 +5,4 @@ use Rattle.capi.proofs.sessions.not_stepped.Goals as goal
 
 pub returns : goal.returns
 unfolding shown_row sort_number first_of last_of
-returns c = λ e. simp (c.row_shown.ensures, c.to_send-2.ensures, c.to_send.ensures, e)
+returns c = λ e. simp (c.from.ensures, c.to_send-2.ensures, c.to_send.ensures, e)

@@ -20,39 +20,39 @@ unfolding outgoing_of send_by sent_by
 returns-in-1 c =
     let h = c.requires in
     let k = c.in-1.is in
-    (simp (c.written_shown.ensures, c.put_heartbeat_for.ensures.0, h, k), simp (c.put_heartbeat_for.ensures.1, h, k))
+    (simp (c.from.ensures, c.put_heartbeat_for.ensures.0, h, k), simp (c.put_heartbeat_for.ensures.1, h, k))
 
 pub returns-in-2 : goal.returns-in-2
 unfolding outgoing_of send_by sent_by
 returns-in-2 c =
     let h = c.requires in
     let k = c.in-2.is in
-    (simp (c.written_shown-in-2.ensures, c.put_logout.ensures.0, h, k), simp (c.put_logout.ensures.1, h, k))
+    (simp (c.from-in-2.ensures, c.put_logout.ensures.0, h, k), simp (c.put_logout.ensures.1, h, k))
 
 pub returns-in-3 : goal.returns-in-3
 unfolding outgoing_of send_by sent_by
 returns-in-3 c =
     let h = c.requires in
     let k = c.in-3.is in
-    (simp (c.written_shown-in-3.ensures, c.put_gap_fill.ensures.0, h, k), simp (c.put_gap_fill.ensures.1, h, k))
+    (simp (c.from-in-3.ensures, c.put_gap_fill.ensures.0, h, k), simp (c.put_gap_fill.ensures.1, h, k))
 
 pub returns-in-5 : goal.returns-in-5
 unfolding outgoing_of send_by sent_by
 returns-in-5 c =
     let h = c.requires in
     let k = c.in-5.is in
-    (simp (c.written_shown-in-5.ensures, c.put_test_request.ensures.0, c.id_of.ensures, h, k), simp (c.put_test_request.ensures.1, c.id_of.ensures, h, k))
+    (simp (c.from-in-5.ensures, c.put_test_request.ensures.0, c.id_of.ensures, h, k), simp (c.put_test_request.ensures.1, c.id_of.ensures, h, k))
 
 pub returns-in-6 : goal.returns-in-6
 unfolding outgoing_of send_by sent_by
 returns-in-6 c =
     let h = c.requires in
     let k = c.in-6.is in
-    (simp (c.written_shown-in-6.ensures, c.put_heartbeat.ensures.0, h, k), simp (c.put_heartbeat.ensures.1, h, k))
+    (simp (c.from-in-6.ensures, c.put_heartbeat.ensures.0, h, k), simp (c.put_heartbeat.ensures.1, h, k))
 
 pub returns-in_default : goal.returns-in_default
 unfolding outgoing_of send_by sent_by
 returns-in_default c =
     let h = c.requires in
     let r = c.in_default.in_default-own.rest in
-    (simp (c.written_shown-in_default.ensures, c.put_resend_request.ensures.0, h, ne_eqb _ 0 r.0.0.0.0.0.1, ne_eqb _ 1 r.0.0.0.0.1, ne_eqb _ 2 r.0.0.0.1, ne_eqb _ 3 r.0.0.1, ne_eqb _ 5 r.0.1, ne_eqb _ 6 r.1), simp (c.put_resend_request.ensures.1, h, ne_eqb _ 0 r.0.0.0.0.0.1, ne_eqb _ 1 r.0.0.0.0.1, ne_eqb _ 2 r.0.0.0.1, ne_eqb _ 3 r.0.0.1, ne_eqb _ 5 r.0.1, ne_eqb _ 6 r.1))
+    (simp (c.from-in_default.ensures, c.put_resend_request.ensures.0, h, ne_eqb _ 0 r.0.0.0.0.0.1, ne_eqb _ 1 r.0.0.0.0.1, ne_eqb _ 2 r.0.0.0.1, ne_eqb _ 3 r.0.0.1, ne_eqb _ 5 r.0.1, ne_eqb _ 6 r.1), simp (c.put_resend_request.ensures.1, h, ne_eqb _ 0 r.0.0.0.0.0.1, ne_eqb _ 1 r.0.0.0.0.1, ne_eqb _ 2 r.0.0.0.1, ne_eqb _ 3 r.0.0.1, ne_eqb _ 5 r.0.1, ne_eqb _ 6 r.1))

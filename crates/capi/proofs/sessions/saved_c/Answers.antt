@@ -4,4 +4,4 @@ use Rattle.capi.proofs.sessions.saved_c.Goals as goal
 
 pub returns : goal.returns
 unfolding saved_c
-returns c = simp (c.made_shown.ensures, c.saved.ensures)
+returns c = simp (c.from.ensures, c.saved.ensures)

@@ -16,4 +16,4 @@ returns c =
     let a = c.args in
     let t = taken a.c c.session_in-held.result c.code_number-refusal.result c.session_in-held.ensures c.code_number-refusal.ensures c.if-refusal-ne0.false in
     let e = c.steps.ensures in
-    (simp (c.done_shown.ensures, e.0, t.session, t.passes), simp (e.1, t.session, t.passes), simp (e.2, t.session, t.passes))
+    (simp (c.from.ensures, e.0, t.session, t.passes), simp (e.1, t.session, t.passes), simp (e.2, t.session, t.passes))

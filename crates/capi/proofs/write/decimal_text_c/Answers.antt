@@ -12,4 +12,4 @@ pub returns : goal.returns
 returns c =
     let p = c.put_amount in
     let e = ap amount_text (to_z-of_z c.ranges.decimal) in
-    (c.laid_shown.ensures ∙ ap shown_laid (p.ensures.0 ∙ ap (λ (x : List ℕ). laid_answer x c.args.d.now) e), p.ensures.1 ∙ ap (λ (x : List ℕ). laid x c.args.d.now) e)
+    (c.from.ensures ∙ ap shown_laid (p.ensures.0 ∙ ap (λ (x : List ℕ). laid_answer x c.args.d.now) e), p.ensures.1 ∙ ap (λ (x : List ℕ). laid x c.args.d.now) e)

@@ -2,4 +2,4 @@
 use Rattle.capi.proofs.write.write_c.Goals as goal
 
 pub returns : goal.returns
-returns c = (simp (c.written_shown.ensures, c.write.ensures.0, c.header_of.ensures), simp (c.write.ensures.1, c.header_of.ensures))
+returns c = (simp (c.from-2.ensures, c.write.ensures.0, c.from.ensures), simp (c.write.ensures.1, c.from.ensures))

@@ -1,0 +1,7 @@
+-- `capi::lines::CTickedFromTicked::from` meets its contract.
+use Rattle.capi.specs.Lines.{shown_ticked}
+use Rattle.capi.proofs.lines.CTickedFromTicked.from.Goals as goal
+
+pub returns : goal.returns
+unfolding shown_ticked
+returns c = simp (c.act_send.ensures, c.from.ensures, c.act_number.ensures, c.code_number.ensures)

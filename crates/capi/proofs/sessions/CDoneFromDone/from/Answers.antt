@@ -1,0 +1,7 @@
+-- `capi::sessions::CDoneFromDone::from` meets its contract.
+use Rattle.capi.specs.Steps.{shown_done}
+use Rattle.capi.proofs.sessions.CDoneFromDone.from.Goals as goal
+
+pub returns : goal.returns
+unfolding shown_done
+returns c = simp (c.ended_besides.ensures, c.ended_code.ensures, c.ended_number.ensures, c.from.ensures, c.code_number.ensures)

@@ -1,7 +1,0 @@
--- `capi::sessions::row_shown` meets its contract.
-use Rattle.capi.specs.Sessions.{shown_row}
-use Rattle.capi.proofs.sessions.row_shown.Goals as goal
-
-pub returns : goal.returns
-unfolding shown_row
-returns c = simp (c.last_of.ensures, c.first_of.ensures, c.sort_number.ensures)
