@@ -24,7 +24,8 @@ fn is_missing(messagetype: u8, map: &[u8], p: usize) -> bool
     row_of(messagetype, p).is_required() && !is_present(map, p)
 }
 
-// The lowest set position that the type does not know, one by one.
+// The lowest set position that the type does not know, one by one. Each search here has its own loop: they differ in the test and
+// in how far they look, and beside these a shared one would leave nothing but the call.
 fn search_unknown(messagetype: u8, map: &[u8]) -> Option<usize>
     ensures { result ≡ lowest_unknown (row_of messagetype) map.now }
 {

@@ -139,13 +139,14 @@ fn line_of(made: Made, interval: u32) -> LineMade
     }
 }
 
-// A time earlier than the latest given counts as that latest.
+// A time earlier than the latest given counts as that latest: a rule, which every call with a time follows.
 pub(crate) fn later(now: u64, t: u64) -> u64
     ensures { result ≡ later now t }
 {
     now.max(t)
 }
 
+// Whether the state is Live: a word of the definitions, which the line and its ticks ask for in five places.
 pub(crate) fn is_live(state: State) -> bool
     ensures { result ≡ is_live state }
 {
