@@ -50,7 +50,7 @@ pub struct Done {
 }
 
 // What some turns did: the session after them, the bytes used, how many numbers were laid into each list, and whether a message
-// was heard.
+// was heard. The lists are lent and of fixed size, so that how much of each is laid stands here, and not in a Vec.
 #[derive(Clone, Copy)]
 struct SoFar {
     session: Session,
@@ -296,7 +296,8 @@ fn turn(
     }
 }
 
-// All turns. Business in its turn, which most messages of a day are, is taken at once: the rules would do no more.
+// All turns. Business in its turn, which most messages of a day are, is taken at once: the rules would do no more. A loop and no
+// chain: each turn's step is what it used, and what it laid.
 fn run(session: Session, s: &[u8], rows: &mut [u32], sends: &mut [u32]) -> Done
     requires { session.state ≡ state.Down → ⊥ }
     ensures { LaysRun session s.now rows.old sends.old result rows.new sends.new }

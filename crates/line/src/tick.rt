@@ -60,7 +60,7 @@ fn reached(since: u64, wait: u64, n: u64) -> bool
     wait <= n - since
 }
 
-// The three in their order.
+// The three in their order. They are facts of the time, of which several may hold at once; which comes first is decided here.
 #[tactic(auto, unfolding(crate::specs::Tick::due_by))]
 fn due_by(down: bool, test: bool, beat: bool) -> Option<Due>
     ensures { result ≡ due_by down test beat }
