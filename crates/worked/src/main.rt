@@ -79,7 +79,7 @@ fn print_reading(rt: &impl Print, s: &[u8]) -> io::Result<()> {
     }
 }
 
-// A text's characters, each as a terminal shows it safely.
+// A text's characters, each as a terminal shows it safely. (Replay has these few lines for a buffered writer.)
 fn print_shown(rt: &impl Print, text: &[u8]) -> io::Result<()> {
     for b in text {
         let mut shown = [0u8; 4];
@@ -154,7 +154,8 @@ fn cut(words: &[u8]) -> (&[u8], &[u8]) {
     }
 }
 
-// A number of at most ten decimal digits.
+// A number of at most ten decimal digits. It is read up to what is no digit, and never refused: bench, replay and sheet refuse what
+// is no number, each in its own way.
 fn number(word: &[u8]) -> u64 {
     let mut n: u64 = 0;
     for b in word {
