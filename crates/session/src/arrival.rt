@@ -54,12 +54,6 @@ pub struct Message {
     pub content: Content,
 }
 
-#[derive(Clone, Copy)]
-pub enum Arrival {
-    Refused(Refusal),
-    Good(Message),
-}
-
 // Whether two texts are the same.
 fn is_same(a: &[u8], b: &[u8]) -> bool
     ensures { result ≡ same_bytes a.now b.now }
@@ -191,17 +185,17 @@ pub(crate) fn arrival_by(
     ours: &[u8; COMP_ID_BYTES],
     s: &[u8],
     reading: Result<Reading, Refusal>,
-) -> Arrival
+) -> Result<Message, Refusal>
     ensures { result ≡ arrival_by ours.now s.now reading }
 {
     match reading {
-        Ok(Reading { header, length }) => Arrival::Good(Message {
+        Ok(Reading { header, length }) => Ok(Message {
             number: header.number,
             possdup: header.possdup == 1,
             ours: is_ours(ours, s),
             content: content_in(header.messagetype, s, length),
         }),
-        Err(refusal) => Arrival::Refused(refusal),
+        Err(refusal) => Err(refusal),
     }
 }
 
