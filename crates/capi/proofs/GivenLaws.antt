@@ -8,7 +8,7 @@ use native.Mathlib.Omega.{arith}
 use lib.Dec.{ltb, leb, eqb}
 use lib.ListN.{length, take as front, drop}
 use borrow.Author.Tests.{ltb-true, ltb-false, leb-false, eqb-false}
-use Rattle.std.specs.Prelude.{Option, Some, None}
+use Rattle.std.specs.Prelude.{Option, Some, None, Result, Ok, Err}
 use Rattle.tables.specs.declared.dictionary.Field.TheVariants.{TestRequestId, GapFill as GapFillField}
 use Rattle.tables.specs.Tables.{row_of}
 use Rattle.wire.specs.Number.{Bytes, number}
@@ -22,6 +22,7 @@ use Rattle.message.specs.Read.{read_of}
 use Rattle.message.specs.Refusal.{number_of, short, bad_sum}
 use Rattle.message.proofs.FrameLaws.{part-there}
 use Rattle.message.proofs.ReadLaws.{read-front}
+use Rattle.message.specs.declared.refusal.Refusal.{Refusal}
 use Rattle.session.specs.declared.arrival.Content.{Content}
 use Rattle.session.specs.declared.arrival.Content.TheVariants.{
   Heartbeat,
@@ -36,8 +37,6 @@ use Rattle.session.specs.declared.arrival.Content.TheVariants.{
   Business,
 }
 use Rattle.session.specs.declared.arrival.Message.{Message}
-use Rattle.session.specs.declared.arrival.Arrival.{Arrival}
-use Rattle.session.specs.declared.arrival.Arrival.TheVariants.{Refused, Good}
 use Rattle.session.specs.declared.state.Fault.{Fault}
 use Rattle.session.specs.declared.state.Fault.TheVariants as fault
 use Rattle.session.specs.declared.state.Halt.{Halt}
@@ -302,13 +301,13 @@ module _ (s : Session) (e : 1 ≤ s.expected) (two : 2 ≤ s.own) (within : s.ow
     ruled-in-gives Waiting = for-us-gives (waiting s m.number m.content) (waiting-gives m.number m.content)
     ruled-in-gives Live = for-us-gives (live s m.number m.possdup m.content) (live-gives m.content numbered-gives)
 
-  arrived-gives : (a : Arrival) → ((m : Message) → a ≡ Good m → Narrow m) → Gives (arrived s a)
+  arrived-gives : (a : Result Message Refusal) → ((m : Message) → a ≡ Ok m → Narrow m) → Gives (arrived s a)
   unfolding arrived refused ruled
-  arrived-gives (Refused r) h =
+  arrived-gives (Err r) h =
       either Gives (eqb (number_of r) short) (λ t. unmoved-gives s (Some (fault.Refused r)))
       (λ t. either Gives (eqb (number_of r) bad_sum) (λ u. unmoved-gives s (Some (fault.Refused r)))
       (λ u. leave-gives (Some (fault.Refused r)) s.expected row.Nothing))
-  arrived-gives (Good m) h = ruled-in-gives m (h m refl) s.state
+  arrived-gives (Ok m) h = ruled-in-gives m (h m refl) s.state
 
 -- the reader's message has such widths
 id-within : (messagetype : ℕ) (m body : List ℕ) → id_in (content_of messagetype m body) ≤ most_id
@@ -333,7 +332,7 @@ number-within b h n bytes e =
     let q : h.number ≡ number (front 4 (drop 4 b)) = ap (λ (k : Header). k.number) w.1 ∙ ap number (part-there 4 8 b l) in
     omega (arith, q, number-take (drop 4 b) 4 (bytes_drop 4 b bytes))
 
-arrival-narrow : (ours b : List ℕ) → Bytes b → (m : Message) → arrival_of ours b ≡ Good m → Narrow m
+arrival-narrow : (ours b : List ℕ) → Bytes b → (m : Message) → arrival_of ours b ≡ Ok m → Narrow m
 unfolding message_in
 arrival-narrow ours b bytes m e =
     let a = good-arrives ours b m e in

@@ -3,12 +3,11 @@ use Prim.Native.Nat.{ℕ}
 use mathlib.Core.Bool.{Bool}
 use mathlib.Core.List.{List}
 use lib.Dec.{eqb, leb, ltb}
-use Rattle.std.specs.Prelude.{Option}
+use Rattle.std.specs.Prelude.{Option, Result, Ok, Err}
 use Rattle.wire.proofs.TestLaws.{either}
 use Rattle.message.specs.Read.{read_of}
 use Rattle.message.specs.Refusal.{number_of, short, bad_sum}
-use Rattle.session.specs.declared.arrival.Arrival.{Arrival}
-use Rattle.session.specs.declared.arrival.Arrival.TheVariants as arrival
+use Rattle.message.specs.declared.refusal.Refusal.{Refusal}
 use Rattle.session.specs.declared.arrival.Content.{Content}
 use Rattle.session.specs.declared.arrival.Content.TheVariants.{
   Heartbeat,
@@ -143,11 +142,11 @@ module _ (s : Session) (h : LiveOrDown s.state) where
   ruled-so m p up = either Leaves m.ours (λ t. live-so _ _ _) (λ t. stop-so _)
   ruled-so m p off = h
 
-  arrived-so : (a : Arrival) → Leaves (arrived s a)
+  arrived-so : (a : Result Message Refusal) → Leaves (arrived s a)
   unfolding arrived refused ruled unmoved
-  arrived-so (arrival.Refused r) =
+  arrived-so (Err r) =
       either Leaves (eqb (number_of r) short) (λ t. h) (λ t. either Leaves (eqb (number_of r) bad_sum) (λ u. h) (λ u. leave-so _ _ _))
-  arrived-so (arrival.Good m) = ruled-so m s.state h
+  arrived-so (Ok m) = ruled-so m s.state h
 
   step-in-so : (b : List ℕ) (p : State) → LiveOrDown p → Leaves (step_in p s b (read_of b))
   unfolding step_in unmoved

@@ -22,7 +22,6 @@ use Rattle.message.specs.Read.{read_framed, read_of}
 use Rattle.message.specs.Refusal.{number_of, besides_of}
 use Rattle.message.proofs.FrameLaws.{framed-by, front_by, own-comp-id, own-map, own_body, framed-more}
 use Rattle.message.proofs.ReadLaws.{WholeAt, read-front, read_more}
-use Rattle.session.specs.declared.arrival.Arrival.TheVariants.{Good}
 use Rattle.session.specs.declared.state.Fault.{Fault}
 use Rattle.session.specs.declared.state.Fault.TheVariants as fault
 use Rattle.session.specs.declared.state.Row.{Row}
@@ -150,7 +149,7 @@ module _ (b c : List ℕ) (long : (n : ℕ) → read_of b ≡ Err (refusal.Short
   arrival-more ours = ap (arrival_by ours (b ++ c)) (read_more b c long) ∙ go (read_of b) refl
     where
       go : (r : Result Reading Refusal) → read_of b ≡ r → arrival_by ours (b ++ c) r ≡ arrival_by ours b r
-      go (Ok x) e = ap Good (message-more ours x.header x.length e)
+      go (Ok x) e = ap Ok (message-more ours x.header x.length e)
       go (Err r) e = refl
 
 -- so a step that did not meet 1 is the same with more bytes behind it, and uses as many

@@ -54,12 +54,6 @@ pub struct Message {
     pub content: Content,
 }
 
-#[derive(Clone, Copy)]
-pub enum Arrival {
-    Refused(Refusal),
-    Good(Message),
-}
-
 // Whether two texts are the same.
 fn is_same(a: &[u8], b: &[u8]) -> bool
     ensures { result ≡ same_bytes a.now b.now }
@@ -131,6 +125,7 @@ fn content_of(messagetype: u8, map: &[u8], body: &[u8]) -> Content
             LAST,
         )),
         LOGOUT => Content::Logout,
+        // An arm each, since an arm of two numbers does not tell the proof which it is.
         LOOKUP_REQUEST => Content::Lookup,
         LOOKUP_RESPONSE => Content::Lookup,
         _ => Content::Business,
@@ -162,6 +157,7 @@ fn is_same_start(a: &[u8], b: &[u8]) -> bool
     if read_eight(a) != read_eight(b) {
         return false;
     }
+    // A loop and no `==`, since a null ends both.
     for i in 8..COMP_ID_BYTES {
         if a[i] != b[i] {
             return false;
@@ -191,17 +187,17 @@ pub(crate) fn arrival_by(
     ours: &[u8; COMP_ID_BYTES],
     s: &[u8],
     reading: Result<Reading, Refusal>,
-) -> Arrival
+) -> Result<Message, Refusal>
     ensures { result ≡ arrival_by ours.now s.now reading }
 {
     match reading {
-        Ok(Reading { header, length }) => Arrival::Good(Message {
+        Ok(Reading { header, length }) => Ok(Message {
             number: header.number,
             possdup: header.possdup == 1,
             ours: is_ours(ours, s),
             content: content_in(header.messagetype, s, length),
         }),
-        Err(refusal) => Arrival::Refused(refusal),
+        Err(refusal) => Err(refusal),
     }
 }
 

@@ -2,10 +2,10 @@
 use Rattle.session.specs.Day.{arrived}
 use Rattle.session.proofs.state.Session.arrived.Goals as goal
 
-pub returns-in-Refused : goal.returns-in-Refused
+pub returns-in-Err : goal.returns-in-Err
 unfolding arrived
-returns-in-Refused c = simp (c.refused.ensures, c.in-Refused.is)
+returns-in-Err c = simp (c.refused.ensures, c.in-Err.is)
 
-pub returns-in-Good : goal.returns-in-Good
+pub returns-in-Ok : goal.returns-in-Ok
 unfolding arrived
-returns-in-Good c = simp (c.ruled.ensures, c.in-Good.is)
+returns-in-Ok c = simp (c.ruled.ensures, c.in-Ok.is)
