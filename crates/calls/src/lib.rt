@@ -269,15 +269,16 @@ fn turn(
     let answer = stepped.answer;
     let row = answer.row;
     let code = answer.code;
+    let undone = SoFar::start(session);
     if let Some(need) = short_of(code) {
         return Turned {
-            did: SoFar::start(session),
+            did: undone,
             next: Some(Ended::Short(need)),
         };
     }
     if !is_fitting(at, rows.len(), sends.len(), answer) {
         return Turned {
-            did: SoFar::start(session),
+            did: undone,
             next: Some(Ended::NoSlot),
         };
     }

@@ -125,6 +125,7 @@ fn content_of(messagetype: u8, map: &[u8], body: &[u8]) -> Content
             LAST,
         )),
         LOGOUT => Content::Logout,
+        // An arm each, since an arm of two numbers does not tell the proof which it is.
         LOOKUP_REQUEST => Content::Lookup,
         LOOKUP_RESPONSE => Content::Lookup,
         _ => Content::Business,
@@ -156,6 +157,7 @@ fn is_same_start(a: &[u8], b: &[u8]) -> bool
     if read_eight(a) != read_eight(b) {
         return false;
     }
+    // A loop and no `==`, since a null ends both.
     for i in 8..COMP_ID_BYTES {
         if a[i] != b[i] {
             return false;

@@ -6,6 +6,7 @@ ghost use Rattle.tables.specs.Line.{is_known, is_required};
 use crate::table::{EXECUTION_REPORT, Row, row_of};
 
 // Whether the table of section 7.8.k names this position, k being `table`. Most positions stand in all nine or in none.
+// Each arm is one equation with the tables, here and below: a `matches!` makes two goals of it, and their names go by its numbers.
 fn is_named(table: u8, position: usize) -> bool
     requires { (1 ≤ table) × (table ≤ 9) }
     ensures { result ≡ is_known (nine_row table position) }

@@ -25,7 +25,7 @@ returns-in-Some c =
     let a = some_short _ _ (sym c.short_of.ensures ∙ c.in-Some.is) in
     let w = ap (λ (m : ℕ). did c.args.session (Some (Short m))) (ap (λ (x : Stepped). code_besides x.answer.code) (sym e) ∙ sym a.1) in
     let u = short-turn c.args.at r q c.args.session s (ap (λ (x : Stepped). code_number x.answer.code) (sym e) ∙ a.0) in
-    let t = turns-nothing _ c.args.session _ c.start.result c.args.rows.now c.args.sends.now (u ∙ w) c.start.ensures in
+    let t = turns-nothing _ c.args.session _ c.start-undone.result c.args.rows.now c.args.sends.now (u ∙ w) c.start-undone.ensures in
     (t.answer, t.rows, t.sends)
 
 pub returns-then-not-is_fitting : goal.returns-then-not-is_fitting
@@ -37,7 +37,7 @@ returns-then-not-is_fitting c =
     let l : code_number (step c.args.session s).answer.code ≡ 1 → ⊥ = λ o. none_short _ (sym c.short_of.ensures ∙ c.in_default.is) (ap (λ (x : Stepped). code_number x.answer.code) e ∙ o) in
     let g = ap (λ (x : Stepped). fits c.args.at r q x.answer) (sym e) ∙ sym c.is_fitting.ensures ∙ c.if-not-is_fitting.true in
     let u = full-turn c.args.at r q c.args.session s l (λ o. true≢false (sym (fits_by c.args.at r q _ o) ∙ g)) in
-    let t = turns-nothing _ c.args.session _ c.start-then-not-is_fitting.result c.args.rows.now c.args.sends.now u c.start-then-not-is_fitting.ensures in
+    let t = turns-nothing _ c.args.session _ c.start-undone.result c.args.rows.now c.args.sends.now u c.start-undone.ensures in
     (t.answer, t.rows, t.sends)
 
 pub put_row-laid-requires : goal.put_row-laid-requires
