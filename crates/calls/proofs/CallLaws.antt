@@ -5,11 +5,12 @@ use mathlib.Core.Bool.{Bool, true, false, cond}
 use mathlib.Core.List.{List, []}
 use native.Mathlib.Omega.{arith}
 use lib.ListN.{length, drop}
+use Rattle.std.specs.Prelude.{Option, Some, None}
 use Rattle.message.specs.declared.refusal.Refusal.TheVariants.{NoRoom}
 use Rattle.message.specs.Frame.{front_length}
 use Rattle.wire.specs.Laying.{laid}
-use Rattle.session.specs.declared.state.Code.{Code}
-use Rattle.session.specs.declared.state.Code.TheVariants as code
+use Rattle.session.specs.declared.state.Fault.{Fault}
+use Rattle.session.specs.declared.state.Fault.TheVariants as fault
 use Rattle.session.specs.declared.state.Halt.TheVariants as halt
 use Rattle.session.specs.declared.state.Session.{Session}
 use Rattle.session.specs.declared.state.State.{State}
@@ -29,11 +30,11 @@ pub live-up : {p : State} → p ≡ state.Live → p ≡ state.Down → ⊥
 live-up a b = let z : ◌≡◌ {A = ℕ} 0 1 = cc in omega arith
 
 -- the two refusals of a call
-abbrev pub down : Code
-down = code.Halted halt.Down
+abbrev pub down : Option Fault
+down = Some (fault.Halted halt.Down)
 
-abbrev pub full : Code
-full = code.Refused (NoRoom (a_row + 2 * a_send))
+abbrev pub full : Option Fault
+full = Some (fault.Refused (NoRoom (a_row + 2 * a_send)))
 
 -- the answer x, and the lists d and e, which were d₀ and e₀
 pub record Answers (s : Session) (bytes d₀ e₀ : List ℕ) (x : Done) (d e : List ℕ) : Type 0 where
@@ -43,21 +44,21 @@ pub record Answers (s : Session) (bytes d₀ e₀ : List ℕ) (x : Done) (d e : 
 
 module _ (s : Session) (bytes d₀ e₀ : List ℕ) where
   refusal-up : (p : State) → (p ≡ state.Down → ⊥) → (b : Bool) → has_room (length d₀) (length e₀) ≡ b
-      → refusal_in p (length d₀) (length e₀) ≡ cond b code.Good full
+      → refusal_in p (length d₀) (length e₀) ≡ cond b None full
   unfolding refusal_in
   refusal-up state.Down up b h = absurd (up refl)
-  refusal-up state.Waiting up b h = ap (λ (r : Bool). cond r code.Good full) h
-  refusal-up state.Live up b h = ap (λ (r : Bool). cond r code.Good full) h
+  refusal-up state.Waiting up b h = ap (λ (r : Bool). cond r None full) h
+  refusal-up state.Live up b h = ap (λ (r : Bool). cond r None full) h
 
   -- a refusal does nothing, so that the lists are as they were
-  nothing : (k : Code) (x : Done) → refusal_in s.state (length d₀) (length e₀) ≡ k → x ≡ report_of k (called_by k s bytes (length d₀) (length e₀))
+  nothing : (k : Option Fault) (x : Done) → refusal_in s.state (length d₀) (length e₀) ≡ k → x ≡ report_of k (called_by k s bytes (length d₀) (length e₀))
       → (called_by k s bytes (length d₀) (length e₀)).rows ≡ [] → (called_by k s bytes (length d₀) (length e₀)).sends ≡ [] → Answers s bytes d₀ e₀ x d₀ e₀
   unfolding steps called rows_after sends_after row_numbers send_numbers
   nothing k x r p a b =
       record {
-        report = p ∙ ap (λ (n : Code). report_of n (called_by n s bytes (length d₀) (length e₀))) (sym r);
-        rows = (laid_none _ d₀ (ap row_numbers (ap (λ (n : Code). (called_by n s bytes (length d₀) (length e₀)).rows) r ∙ a))).1;
-        sends = (laid_none _ e₀ (ap send_numbers (ap (λ (n : Code). (called_by n s bytes (length d₀) (length e₀)).sends) r ∙ b))).1;
+        report = p ∙ ap (λ (n : Option Fault). report_of n (called_by n s bytes (length d₀) (length e₀))) (sym r);
+        rows = (laid_none _ d₀ (ap row_numbers (ap (λ (n : Option Fault). (called_by n s bytes (length d₀) (length e₀)).rows) r ∙ a))).1;
+        sends = (laid_none _ e₀ (ap send_numbers (ap (λ (n : Option Fault). (called_by n s bytes (length d₀) (length e₀)).sends) r ∙ b))).1;
       }
 
   pub down-call : (x : Done) → s.state ≡ state.Down → x ≡ reports s down 0 0 0 false (Down down) → Answers s bytes d₀ e₀ x d₀ e₀
@@ -70,15 +71,15 @@ module _ (s : Session) (bytes d₀ e₀ : List ℕ) where
   full-call x up h r = nothing full x (refusal-up s.state up false h) r refl refl
 
   pub run_call : (x : Done) (d e : List ℕ) → (s.state ≡ state.Down → ⊥) → has_room (length d₀) (length e₀) ≡ true
-      → x ≡ report_of code.Good (course 0 (length d₀) (length e₀) s bytes) → d ≡ laid (row_numbers (course 0 (length d₀) (length e₀) s bytes).rows) d₀
+      → x ≡ report_of None (course 0 (length d₀) (length e₀) s bytes) → d ≡ laid (row_numbers (course 0 (length d₀) (length e₀) s bytes).rows) d₀
       → e ≡ laid (send_numbers (course 0 (length d₀) (length e₀) s bytes).sends) e₀ → Answers s bytes d₀ e₀ x d e
   unfolding steps called called_by rows_after sends_after
   run_call x d e up h a b c =
       let r = sym (refusal-up s.state up true h) in
       record {
-        report = a ∙ ap (λ (n : Code). report_of n (called_by n s bytes (length d₀) (length e₀))) r;
-        rows = b ∙ ap (λ (n : Code). laid (row_numbers (called_by n s bytes (length d₀) (length e₀)).rows) d₀) r;
-        sends = c ∙ ap (λ (n : Code). laid (send_numbers (called_by n s bytes (length d₀) (length e₀)).sends) e₀) r;
+        report = a ∙ ap (λ (n : Option Fault). report_of n (called_by n s bytes (length d₀) (length e₀))) r;
+        rows = b ∙ ap (λ (n : Option Fault). laid (row_numbers (called_by n s bytes (length d₀) (length e₀)).rows) d₀) r;
+        sends = c ∙ ap (λ (n : Option Fault). laid (send_numbers (called_by n s bytes (length d₀) (length e₀)).sends) e₀) r;
       }
 
 -- what every step keeps a call keeps
@@ -98,10 +99,10 @@ module _ (P : Session → Type 0) (keeps : (s : Session) (b : List ℕ) → P s 
   unfolding called called_by refusal_in
   call-keeps s bytes r q h = go s.state refl
     where
-      by : (s.state ≡ state.Down → ⊥) → (k : Code) → P (called_by k s bytes r q).session
-      by up code.Good = course-keeps 0 r q s bytes up h
-      by up (code.Refused x) = h
-      by up (code.Halted x) = h
+      by : (s.state ≡ state.Down → ⊥) → (k : Option Fault) → P (called_by k s bytes r q).session
+      by up None = course-keeps 0 r q s bytes up h
+      by up (Some (fault.Refused x)) = h
+      by up (Some (fault.Halted x)) = h
 
       go : (p : State) → s.state ≡ p → P (called s bytes r q).session
       go state.Down e = subst (λ (p : State). P (called_by (refusal_in p r q) s bytes r q).session) (sym e) h

@@ -10,8 +10,8 @@ use Rattle.std.specs.Prelude.{Option, Some, None}
 use Rattle.message.specs.declared.refusal.Refusal.{Refusal}
 use Rattle.message.specs.declared.refusal.Refusal.TheVariants as refusal
 use Rattle.message.specs.Refusal.{number_of}
-use Rattle.session.specs.declared.state.Code.{Code}
-use Rattle.session.specs.declared.state.Code.TheVariants.{Refused, Halted}
+use Rattle.session.specs.declared.state.Fault.{Fault}
+use Rattle.session.specs.declared.state.Fault.TheVariants.{Refused, Halted}
 use Rattle.session.specs.declared.state.Halt.{Halt}
 use Rattle.session.specs.declared.state.Halt.TheVariants as halt
 use Rattle.session.specs.State.{code_number, code_besides, halt_number}
@@ -26,7 +26,7 @@ low_refusal r (inr (inr e)) = rw e (omega arith)
 
 -- a message of no good checksum is not heard
 pub not-heard : (r : Refusal) → ((n : ℕ) × (r ≡ refusal.Short n)) ⊎ (r ≡ refusal.BadStart) ⊎ (r ≡ refusal.BadLength) ⊎ ((n : ℕ) × (r ≡ refusal.BadSum n))
-    → is_heard (Refused r) ≡ false
+    → is_heard (Some (Refused r)) ≡ false
 unfolding is_heard code_number number_of
 not-heard r (inl (n, e)) = rw e
 not-heard r (inr (inl e)) = rw e
@@ -35,7 +35,7 @@ not-heard r (inr (inr (inr (n, e)))) = rw e
 
 -- every other is
 pub heard-refused : (r : Refusal) → ((n : ℕ) → r ≡ refusal.Short n → ⊥) → (r ≡ refusal.BadStart → ⊥) → (r ≡ refusal.BadLength → ⊥)
-    → ((n : ℕ) → r ≡ refusal.BadSum n → ⊥) → is_heard (Refused r) ≡ true
+    → ((n : ℕ) → r ≡ refusal.BadSum n → ⊥) → is_heard (Some (Refused r)) ≡ true
 unfolding is_heard code_number number_of
 heard-refused (refusal.Short n) p q s t = absurd (p n refl)
 heard-refused refusal.BadStart p q s t = absurd (q refl)
@@ -51,7 +51,7 @@ heard-refused (refusal.NoRoom n) p q s t = refl
 heard-refused refusal.Absent p q s t = refl
 heard-refused refusal.OtherSort p q s t = refl
 
-pub heard-halted : (h : Halt) → is_heard (Halted h) ≡ true
+pub heard-halted : (h : Halt) → is_heard (Some (Halted h)) ≡ true
 unfolding is_heard code_number halt_number
 heard-halted halt.Down = refl
 heard-halted halt.NotDown = refl
@@ -68,7 +68,7 @@ heard-halted halt.StopRepeats = refl
 heard-halted halt.NotASession = refl
 
 -- no other refusal has the number 1
-pub not-short : (r : Refusal) → ((n : ℕ) → r ≡ refusal.Short n → ⊥) → short_of (Refused r) ≡ None
+pub not-short : (r : Refusal) → ((n : ℕ) → r ≡ refusal.Short n → ⊥) → short_of (Some (Refused r)) ≡ None
 unfolding short_of code_number number_of
 not-short (refusal.Short n) p = absurd (p n refl)
 not-short refusal.BadStart p = refl
@@ -84,7 +84,7 @@ not-short (refusal.NoRoom n) p = refl
 not-short refusal.Absent p = refl
 not-short refusal.OtherSort p = refl
 
-pub halted-short : (h : Halt) → short_of (Halted h) ≡ None
+pub halted-short : (h : Halt) → short_of (Some (Halted h)) ≡ None
 unfolding short_of code_number halt_number
 halted-short halt.Down = refl
 halted-short halt.NotDown = refl
@@ -101,7 +101,7 @@ halted-short halt.StopRepeats = refl
 halted-short halt.NotASession = refl
 
 -- the bytes that are needed come with the number 1, and where there are none it is another
-module _ (k : Code) where
+module _ (k : Option Fault) where
   pub some_short : (n : ℕ) → short_of k ≡ Some n → (code_number k ≡ 1) × (n ≡ code_besides k)
   unfolding short_of
   some_short n = go (eqb (code_number k) 1) refl

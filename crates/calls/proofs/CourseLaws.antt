@@ -13,7 +13,7 @@ use borrow.Author.Tests.{le-leb, leb-true, eq-eqb, ne_eqb, eqb-true, eqb-false}
 use Rattle.wire.proofs.TestLaws.{and-true, either}
 use Rattle.message.specs.Frame.{framed, front_length}
 use Rattle.message.specs.Read.{read_framed, read_of}
-use Rattle.session.specs.declared.state.Code.{Code}
+use Rattle.session.specs.declared.state.Fault.{Fault}
 use Rattle.session.specs.declared.state.Answer.{Answer}
 use Rattle.session.specs.declared.state.Row.{Row}
 use Rattle.session.specs.declared.state.Row.TheVariants as row
@@ -71,13 +71,13 @@ length-sends [] = refl
 length-sends (x ∷ xs) = omega (arith, length-sends xs)
 
 -- after a step that is done the call goes on exactly where the session is not Down
-next_up : (p : State) (k : Code) → next_of p k ≡ None → p ≡ Down → ⊥
+next_up : (p : State) (k : Option Fault) → next_of p k ≡ None → p ≡ Down → ⊥
 unfolding next_of
 next_up Down k e d = let z : ◌≡◌ {A = ℕ} 0 1 = cc in omega arith
 next_up Waiting k e d = let z : ◌≡◌ {A = ℕ} 0 1 = cc in omega arith
 next_up Live k e d = let z : ◌≡◌ {A = ℕ} 0 1 = cc in omega arith
 
-pub up_next : (p : State) (k : Code) → (p ≡ Down → ⊥) → next_of p k ≡ None
+pub up_next : (p : State) (k : Option Fault) → (p ≡ Down → ⊥) → next_of p k ≡ None
 unfolding next_of
 up_next Down k u = absurd (u refl)
 up_next Waiting k u = refl

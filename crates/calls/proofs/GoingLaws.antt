@@ -13,7 +13,6 @@ use Rattle.wire.specs.Laying.{laid}
 use Rattle.wire.proofs.BufferLaws.{length-laid, lent_from, Front, front-on, front-own}
 use Rattle.wire.proofs.TestLaws.{rest_of}
 use Rattle.message.specs.Frame.{front_length}
-use Rattle.session.specs.declared.state.Code.TheVariants as code
 use Rattle.session.specs.declared.state.Row.TheVariants.{Business}
 use Rattle.session.specs.declared.state.Send.{Send}
 use Rattle.session.specs.declared.state.Send.TheVariants.{Nothing}
@@ -272,8 +271,8 @@ module _ {s₀ : Session} {bytes d₀ e₀ d e : List ℕ} {s : Session} {used r
 
     -- the report's rows and messages to send are counted from the numbers laid
     pub going-last : (why : Ended) → x.next ≡ Some why
-        → (done : Done) → done ≡ reports x.did.session code.Good (used + x.did.used) ((row-at + x.did.rows) / 5) ((send_at + x.did.sends) / 4) (heard || x.did.heard) why
-        → (done ≡ report_of code.Good (course 0 (length d₀) (length e₀) s₀ bytes))
+        → (done : Done) → done ≡ reports x.did.session None (used + x.did.used) ((row-at + x.did.rows) / 5) ((send_at + x.did.sends) / 4) (heard || x.did.heard) why
+        → (done ≡ report_of None (course 0 (length d₀) (length e₀) s₀ bytes))
         × (lent_from row-at d y ≡ laid (row_numbers (course 0 (length d₀) (length e₀) s₀ bytes).rows) d₀)
         × (lent_from send_at e v ≡ laid (send_numbers (course 0 (length d₀) (length e₀) s₀ bytes).sends) e₀)
     unfolding t report_of slots_by
@@ -284,6 +283,6 @@ module _ {s₀ : Session} {bytes d₀ e₀ d e : List ℕ} {s : Session} {used r
         let u : (row-at + length (row_numbers t.rows)) / 5 ≡ length (i.rows ++ t.rows) = omega (arith, m) in
         let q : (send_at + length (send_numbers t.sends)) / 4 ≡ length (i.sends ++ t.sends) = omega (arith, n) in
         let same =
-        a ∙ ap (λ (z : Turned). reports z.did.session code.Good (used + z.did.used) ((row-at + z.did.rows) / 5) ((send_at + z.did.sends) / 4) (heard || z.did.heard) why) answer
-        ∙ ap₂ (λ (rows sends : ℕ). reports t.session code.Good (used + t.used) rows sends (heard || t.heard) why) u q in
-        (same ∙ ap (report_of code.Good) (sym w), row_laid.is ∙ ap (λ (z : Did Ended). laid (row_numbers z.rows) d₀) (sym w), send-laid.is ∙ ap (λ (z : Did Ended). laid (send_numbers z.sends) e₀) (sym w))
+        a ∙ ap (λ (z : Turned). reports z.did.session None (used + z.did.used) ((row-at + z.did.rows) / 5) ((send_at + z.did.sends) / 4) (heard || z.did.heard) why) answer
+        ∙ ap₂ (λ (rows sends : ℕ). reports t.session None (used + t.used) rows sends (heard || t.heard) why) u q in
+        (same ∙ ap (report_of None) (sym w), row_laid.is ∙ ap (λ (z : Did Ended). laid (row_numbers z.rows) d₀) (sym w), send-laid.is ∙ ap (λ (z : Did Ended). laid (send_numbers z.sends) e₀) (sym w))

@@ -9,7 +9,7 @@ use native.Mathlib.Omega.{arith}
 use lib.ListN.{length, drop}
 use lib.Seq.{drop-append-le, drop-drop}
 use Rattle.message.specs.Frame.{front_length}
-use Rattle.session.specs.declared.state.Code.{Code}
+use Rattle.session.specs.declared.state.Fault.{Fault}
 use Rattle.session.specs.declared.state.Send.{Send}
 use Rattle.session.specs.declared.state.Session.{Session}
 use Rattle.session.specs.declared.state.State.TheVariants as state
@@ -130,7 +130,7 @@ module _ (s : Session) (b c : List ℕ) (r q r₁ q₁ r₂ q₂ : ℕ) where
   abbrev pub second : Did Ended
   second = course 0 r₂ q₂ first.session (drop first.used b ++ c)
 
-  pub two-calls : (s.state ≡ state.Down → ⊥) → ((k : Code) → first.after ≡ Down k → ⊥) → (second.after ≡ NoSlot → ⊥)
+  pub two-calls : (s.state ≡ state.Down → ⊥) → ((k : Option Fault) → first.after ≡ Down k → ⊥) → (second.after ≡ NoSlot → ⊥)
       → (whole.after ≡ NoSlot → ⊥) → whole ≡ joined first (further first.used second)
   unfolding joined
   two-calls up ends h₂ h =

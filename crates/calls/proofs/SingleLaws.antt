@@ -9,7 +9,7 @@ use mathlib.Core.List.{List, [], ◌++◌, append-nil}
 use native.Mathlib.Omega.{arith}
 use lib.ListN.{length, drop, length-append, length-drop}
 use Rattle.message.specs.Frame.{front_length}
-use Rattle.session.specs.declared.state.Code.{Code}
+use Rattle.session.specs.declared.state.Fault.{Fault}
 use Rattle.session.specs.declared.state.Row.{Row}
 use Rattle.session.specs.declared.state.Send.{Send}
 use Rattle.session.specs.declared.state.Session.{Session}
@@ -165,14 +165,14 @@ runs-singles {at = at} {s = s} {left = left} (on d u c) =
 
 -- where the session is Down, and where it is not
 runs-down : {at r q : ℕ} {s : Session} {left : List ℕ} {x : Did Ended} → Runs at r q s left x → x.session.state ≡ state.Down
-    → (k : Code) × (x.after ≡ Down k)
+    → (k : Option Fault) × (x.after ≡ Down k)
 unfolding joined
 runs-down (short up c) h = absurd (up h)
 runs-down (full up l f) h = absurd (up h)
 runs-down {s = s} {left = left} (down d e) h = ((step s left).answer.code, refl)
 runs-down (on d u c) h = runs-down c h
 
-runs-ended : {at r q : ℕ} {s : Session} {left : List ℕ} {x : Did Ended} → Runs at r q s left x → (k : Code) → x.after ≡ Down k
+runs-ended : {at r q : ℕ} {s : Session} {left : List ℕ} {x : Did Ended} → Runs at r q s left x → (k : Option Fault) → x.after ≡ Down k
     → x.session.state ≡ state.Down
 unfolding joined
 runs-ended (short up c) k h = let z : ◌≡◌ {A = ℕ} 0 1 = cc in absurd (omega arith)
@@ -215,10 +215,10 @@ module _ (at r q : ℕ) (s : Session) (left : List ℕ) (up : s.state ≡ state.
   single-steps = let x = runs-singles (course-runs at r q s left up) in (x.count, x.same)
 
   -- a call leaves the session Down exactly where it ends so
-  pub ended-down : (course at r q s left).session.state ≡ state.Down → (k : Code) × ((course at r q s left).after ≡ Down k)
+  pub ended-down : (course at r q s left).session.state ≡ state.Down → (k : Option Fault) × ((course at r q s left).after ≡ Down k)
   ended-down = runs-down (course-runs at r q s left up)
 
-  pub down-ended : (k : Code) → (course at r q s left).after ≡ Down k → (course at r q s left).session.state ≡ state.Down
+  pub down-ended : (k : Option Fault) → (course at r q s left).after ≡ Down k → (course at r q s left).session.state ≡ state.Down
   down-ended = runs-ended (course-runs at r q s left up)
 
   -- it uses no more bytes than there are

@@ -5,8 +5,8 @@ use Rattle.message.specs.Frame.{type_at, front_length}
 use Rattle.message.specs.declared.refusal.Refusal.TheVariants.{NoRoom}
 use Rattle.message.specs.Refusal.{short, bad_sum}
 use Rattle.session.specs.declared.state.Answer.{Answer}
-use Rattle.session.specs.declared.state.Code.{Code}
-use Rattle.session.specs.declared.state.Code.TheVariants.{Good, Refused, Halted}
+use Rattle.session.specs.declared.state.Fault.{Fault}
+use Rattle.session.specs.declared.state.Fault.TheVariants.{Refused, Halted}
 use Rattle.session.specs.declared.state.Halt.TheVariants as halt
 use Rattle.session.specs.declared.state.Row.{Row}
 use Rattle.session.specs.declared.state.Send.{Send}
@@ -56,7 +56,7 @@ send_numbers (x ∷ xs) = (told x).kind ∷ (told x).number ∷ (told x).first �
 
 -- document 02, item 2: a message counts as heard when its checksum holds: any answer but the reader's 1 to 4 (20 makes no difference: only Live is
 -- timed)
-unfoldable pub is_heard : Code → Bool
+unfoldable pub is_heard : Option Fault → Bool
 is_heard k = eqb (code_number k) 0 || ltb bad_sum (code_number k)
 
 -- what some steps did, whether any heard a message, and what comes after them
@@ -84,7 +84,7 @@ joined x y = record {
 }
 
 -- after a step: Down ends the call, with the step's code
-unfoldable pub next_of : State → Code → Option Ended
+unfoldable pub next_of : State → Option Fault → Option Ended
 next_of p code = cond (eqb (state_number p) (state_number state.Down)) (Some (Down code)) None
 
 -- a step that is done, on the message at place `at` and at the front of what is left of the slice: it uses the message's Length, or no bytes if it
@@ -104,7 +104,7 @@ unfoldable pub fits : ℕ → ℕ → ℕ → Answer → Bool
 fits at r q a = leb at last && leb (length (row_numbers (row_at at 0 a.row))) r && leb (length (send_numbers (sends_of a))) q
 
 -- the bytes that are needed, where a step answered 1
-unfoldable pub short_of : Code → Option ℕ
+unfoldable pub short_of : Option Fault → Option ℕ
 short_of k = cond (eqb (code_number k) short) (Some (code_besides k)) None
 
 -- a turn: 1 ends the call, with the bytes that it needs, and so does a row or a message to send without a free slot, each before the step
@@ -178,34 +178,34 @@ course at r q s left = turns (length left) at r q s left
 unfoldable pub has_room : ℕ → ℕ → Bool
 has_room r q = leb a_row r && leb (2 * a_send) q
 
-unfoldable pub refusal_in : State → ℕ → ℕ → Code
-refusal_in p r q = cond (eqb (state_number p) (state_number state.Down)) (Halted halt.Down) (cond (has_room r q) Good (Refused (NoRoom (a_row + 2 * a_send))))
+unfoldable pub refusal_in : State → ℕ → ℕ → Option Fault
+refusal_in p r q = cond (eqb (state_number p) (state_number state.Down)) (Some (Halted halt.Down)) (cond (has_room r q) None (Some (Refused (NoRoom (a_row + 2 * a_send)))))
 
 -- what a call does: nothing where it is refused
-unfoldable pub called_by : Code → Session → List ℕ → ℕ → ℕ → Did Ended
-called_by Good s bytes r q = course 0 r q s bytes
-called_by (Refused x) s bytes r q = did s NoSlot
-called_by (Halted h) s bytes r q = did s (Down (Halted h))
+unfoldable pub called_by : Option Fault → Session → List ℕ → ℕ → ℕ → Did Ended
+called_by None s bytes r q = course 0 r q s bytes
+called_by (Some (Refused x)) s bytes r q = did s NoSlot
+called_by (Some (Halted h)) s bytes r q = did s (Down (Some (Halted h)))
 
 unfoldable pub called : Session → List ℕ → ℕ → ℕ → Did Ended
 called s bytes r q = called_by (refusal_in s.state r q) s bytes r q
 
 -- the report; with 11 it says the slots that are needed
-unfoldable pub slots_by : Code → ℕ → ℕ → ℕ
-slots_by Good done needed = done
-slots_by (Refused x) done needed = needed
-slots_by (Halted h) done needed = done
+unfoldable pub slots_by : Option Fault → ℕ → ℕ → ℕ
+slots_by None done needed = done
+slots_by (Some (Refused x)) done needed = needed
+slots_by (Some (Halted h)) done needed = done
 
-abbrev pub reports : Session → Code → ℕ → ℕ → ℕ → Bool → Ended → Done
+abbrev pub reports : Session → Option Fault → ℕ → ℕ → ℕ → Bool → Ended → Done
 reports s k used rows sends heard ended = record { session = s; code = k; used = used; rows = rows; sends = sends; heard = heard; ended = ended }
 
-unfoldable pub report_of : Code → Did Ended → Done
+unfoldable pub report_of : Option Fault → Did Ended → Done
 report_of k x = reports x.session k x.used (slots_by k (length x.rows) 1) (slots_by k (length x.sends) 2) x.heard x.after
 
 -- a call that is not refused: its report r, and the lists d and e afterwards
 abbrev pub LaysRun : Session → List ℕ → List ℕ → List ℕ → Done → List ℕ → List ℕ → Type 0
 LaysRun s bytes d e r d' e' =
-    (r ≡ report_of Good (course 0 (length d) (length e) s bytes))
+    (r ≡ report_of None (course 0 (length d) (length e) s bytes))
     × (d' ≡ laid (row_numbers (course 0 (length d) (length e) s bytes).rows) d)
     × (e' ≡ laid (send_numbers (course 0 (length d) (length e) s bytes).sends) e)
 

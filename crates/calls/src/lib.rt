@@ -15,7 +15,7 @@ use message::frame::front_length;
 use message::read::{Reading, read};
 use message::refusal::Refusal;
 use session::state::{
-    Answer, Code, Halt, LAST, Row, Send, Session, State, first_of, last_of, sort_number, told,
+    Answer, Fault, Halt, LAST, Row, Send, Session, State, first_of, last_of, sort_number, told,
 };
 
 // A row takes five numbers: its sort, its first and last number, where in the slice its message begins, and how long that is.
@@ -32,7 +32,7 @@ const NEEDED: usize = A_ROW + 2 * A_SEND;
 #[derive(Clone, Copy)]
 pub enum Ended {
     Short(usize),
-    Down(Code),
+    Down(Option<Fault>),
     NoSlot,
 }
 
@@ -41,7 +41,7 @@ pub enum Ended {
 #[derive(Clone, Copy)]
 pub struct Done {
     pub session: Session,
-    pub code: Code,
+    pub code: Option<Fault>,
     pub used: usize,
     pub rows: usize,
     pub sends: usize,
@@ -50,7 +50,7 @@ pub struct Done {
 }
 
 // What some turns did: the session after them, the bytes used, how many numbers were laid into each list, and whether a message
-// was heard.
+// was heard. The lists are lent and of fixed size, so that how much of each is laid stands here, and not in a Vec.
 #[derive(Clone, Copy)]
 struct SoFar {
     session: Session,
@@ -94,7 +94,7 @@ impl SoFar {
     }
 
     // The report of a call that ended so.
-    fn report(self, code: Code, ended: Ended) -> Done
+    fn report(self, code: Option<Fault>, ended: Ended) -> Done
         ensures { result ≡ reports self.session code self.used (self.rows / a_row) (self.sends / a_send) self.heard ended }
     {
         Done {
@@ -110,17 +110,19 @@ impl SoFar {
 }
 
 // Whether a message that was answered so counts as heard: its checksum held, so that it is any answer but the reader's 1 to 4.
-pub fn is_heard(code: Code) -> bool
+pub fn is_heard(code: Option<Fault>) -> bool
     ensures { result ≡ is_heard code }
 {
     match code {
-        Code::Good => true,
-        Code::Refused(refusal) => match refusal {
-            Refusal::Short(_) | Refusal::BadStart | Refusal::BadLength | Refusal::BadSum(_) =>
-                false,
-            _ => true,
+        Some(fault) => match fault {
+            Fault::Refused(refusal) => match refusal {
+                Refusal::Short(_) | Refusal::BadStart | Refusal::BadLength | Refusal::BadSum(_) =>
+                    false,
+                _ => true,
+            },
+            Fault::Halted(_) => true,
         },
-        Code::Halted(_) => true,
+        None => true,
     }
 }
 
@@ -214,7 +216,7 @@ fn used_by(reading: Result<Reading, Refusal>, s: &[u8]) -> usize
     }
 }
 
-fn next_of(state: State, code: Code) -> Option<Ended>
+fn next_of(state: State, code: Option<Fault>) -> Option<Ended>
     ensures { result ≡ next_of state code }
 {
     match state {
@@ -234,16 +236,18 @@ fn has_room(rows: usize, sends: usize) -> bool
 }
 
 // The bytes that are needed, where a step answered that there are too few.
-fn short_of(code: Code) -> Option<usize>
+fn short_of(code: Option<Fault>) -> Option<usize>
     ensures { result ≡ short_of code }
 {
     match code {
-        Code::Good => None,
-        Code::Refused(refusal) => match refusal {
-            Refusal::Short(need) => Some(need),
-            _ => None,
+        Some(fault) => match fault {
+            Fault::Refused(refusal) => match refusal {
+                Refusal::Short(need) => Some(need),
+                _ => None,
+            },
+            Fault::Halted(_) => None,
         },
-        Code::Halted(_) => None,
+        None => None,
     }
 }
 
@@ -292,7 +296,8 @@ fn turn(
     }
 }
 
-// All turns. Business in its turn, which most messages of a day are, is taken at once: the rules would do no more.
+// All turns. Business in its turn, which most messages of a day are, is taken at once: the rules would do no more. A loop and no
+// chain: each turn's step is what it used, and what it laid.
 fn run(session: Session, s: &[u8], rows: &mut [u32], sends: &mut [u32]) -> Done
     requires { session.state ≡ state.Down → ⊥ }
     ensures { LaysRun session s.now rows.old sends.old result rows.new sends.new }
@@ -325,7 +330,7 @@ fn run(session: Session, s: &[u8], rows: &mut [u32], sends: &mut [u32]) -> Done
         );
         so_far.add(turned.did);
         if let Some(ended) = turned.next {
-            return so_far.report(Code::Good, ended);
+            return so_far.report(None, ended);
         }
     }
 }
@@ -337,11 +342,11 @@ pub fn steps(session: Session, s: &[u8], rows: &mut [u32], sends: &mut [u32]) ->
 {
     let start = SoFar::start(session);
     if let State::Down = session.state() {
-        let down = Code::Halted(Halt::Down);
+        let down = Some(Fault::Halted(Halt::Down));
         return start.report(down, Ended::Down(down));
     }
     if !has_room(rows.len(), sends.len()) {
-        let full = start.report(Code::Refused(Refusal::NoRoom(NEEDED)), Ended::NoSlot);
+        let full = start.report(Some(Fault::Refused(Refusal::NoRoom(NEEDED))), Ended::NoSlot);
         return Done {
             rows: 1,
             sends: 2,

@@ -4,12 +4,13 @@ use mathlib.Core.Path.{◌≡◌, refl, sym, subst}
 use mathlib.Core.List.{List, [], ◌∷◌, ◌++◌}
 use lib.Dec.{eqb}
 use lib.ListN.{get_or, drop}
+use Rattle.std.specs.Prelude.{Option, Some, None}
 use Rattle.wire.specs.Number.{Bytes}
 use Rattle.wire.proofs.NumberLaws.{bytes_drop}
 use Rattle.wire.proofs.TestLaws.{either}
 use Rattle.message.specs.Frame.{front_length}
-use Rattle.session.specs.declared.state.Code.{Code}
-use Rattle.session.specs.declared.state.Code.TheVariants as code
+use Rattle.session.specs.declared.state.Fault.{Fault}
+use Rattle.session.specs.declared.state.Fault.TheVariants as fault
 use Rattle.session.specs.declared.state.Send.{Send}
 use Rattle.session.specs.declared.state.Send.TheVariants.{Nothing}
 use Rattle.session.specs.declared.state.Session.{Session}
@@ -69,11 +70,11 @@ module _ (s : Session) (h : Standing s) (l : s.own ≤ last) (bytes : List ℕ) 
       let w = single-steps 0 r q s bytes up in
       subst (λ (x : Did Ended). Each x.sends) (sym w.1) (singles-each w.0 0 s bytes (course 0 r q s bytes).after h l b)
 
-  by_code : (s.state ≡ state.Down → ⊥) → (k : Code) → Each (called_by k s bytes r q).sends
+  by_code : (s.state ≡ state.Down → ⊥) → (k : Option Fault) → Each (called_by k s bytes r q).sends
   unfolding called_by
-  by_code up code.Good = course-each up
-  by_code up (code.Refused x) = none
-  by_code up (code.Halted x) = none
+  by_code up None = course-each up
+  by_code up (Some (fault.Refused x)) = none
+  by_code up (Some (fault.Halted x)) = none
 
   by_state : (p : State) → s.state ≡ p → Each (called_by (refusal_in p r q) s bytes r q).sends
   unfolding called_by refusal_in

@@ -6,12 +6,12 @@ use mathlib.Core.List.{List, [], ◌∷◌, ◌++◌}
 use native.Mathlib.Omega.{arith}
 use lib.ListN.{length, get_or, drop}
 use borrow.Author.Tests.{le-leb}
+use Rattle.std.specs.Prelude.{Option, None}
 use Rattle.wire.specs.Laying.{laid}
 use Rattle.wire.specs.Number.{Bytes}
 use Rattle.wire.proofs.TestLaws.{either}
 use Rattle.message.specs.Refusal.{number_of}
-use Rattle.session.specs.declared.state.Code.{Code}
-use Rattle.session.specs.declared.state.Code.TheVariants.{Good}
+use Rattle.session.specs.declared.state.Fault.{Fault}
 use Rattle.session.specs.declared.state.Send.{Send}
 use Rattle.session.specs.declared.state.Send.TheVariants.{Nothing}
 use Rattle.session.specs.declared.state.State.{State}
@@ -41,30 +41,30 @@ unfolding laid
 laid-at xs d k l h = rw (le-leb (length (send_numbers xs)) (length d) l) (numbers-at xs (drop (length (send_numbers xs)) d) k h)
 
 -- a call that is not refused is on a session that is not Down
-accepted : (r q : ℕ) (p : State) → code_number (refusal_in p r q) ≡ 0 → (refusal_in p r q ≡ Good) × (p ≡ Down → ⊥)
+accepted : (r q : ℕ) (p : State) → code_number (refusal_in p r q) ≡ 0 → (refusal_in p r q ≡ None) × (p ≡ Down → ⊥)
 unfolding refusal_in code_number halt_number number_of
 accepted r q Down z = absurd (omega arith)
 accepted r q Waiting z =
-    (either (λ (k : Code). code_number k ≡ 0 → k ≡ Good) (has_room r q) (λ t y. refl) (λ t y. absurd (omega arith)) z, waiting-up refl)
-accepted r q Live z = (either (λ (k : Code). code_number k ≡ 0 → k ≡ Good) (has_room r q) (λ t y. refl) (λ t y. absurd (omega arith)) z, live-up refl)
+    (either (λ (k : Option Fault). code_number k ≡ 0 → k ≡ None) (has_room r q) (λ t y. refl) (λ t y. absurd (omega arith)) z, waiting-up refl)
+accepted r q Live z = (either (λ (k : Option Fault). code_number k ≡ 0 → k ≡ None) (has_room r q) (λ t y. refl) (λ t y. absurd (omega arith)) z, live-up refl)
 
 module _ (c : CSession) (h : is_session c ≡ true) (s rows sends : List ℕ) (z : (steps_c c s (length rows) (length sends)).refusal ≡ 0) where
   given : List Send
   given = (called (session_in c) s (length rows) (length sends)).sends
 
-  good : (refusal_in (session_in c).state (length rows) (length sends) ≡ Good) × ((session_in c).state ≡ Down → ⊥)
+  good : (refusal_in (session_in c).state (length rows) (length sends) ≡ None) × ((session_in c).state ≡ Down → ⊥)
   unfolding steps_c shown_done steps report_of
   good = accepted (length rows) (length sends) (session_in c).state (rw h at z)
 
   counted : (steps_c c s (length rows) (length sends)).sends ≡ length given
   unfolding steps_c shown_done steps report_of slots_by given
-  counted = rw h (ap (λ (k : Code). slots_by k (length given) 2) good.0)
+  counted = rw h (ap (λ (k : Option Fault). slots_by k (length given) 2) good.0)
 
   fitting : length (send_numbers given) ≤ length sends
   unfolding given called called_by
   fitting =
       let e : length (send_numbers given) ≡ length (send_numbers (course 0 (length rows) (length sends) (session_in c) s).sends) =
-      ap (λ (k : Code). length (send_numbers (called_by k (session_in c) s (length rows) (length sends)).sends)) good.0 in
+      ap (λ (k : Option Fault). length (send_numbers (called_by k (session_in c) s (length rows) (length sends)).sends)) good.0 in
       omega (arith, e, course-sends 0 (length rows) (length sends) (session_in c) s good.1)
 
   pub entry-passes : c.own ≤ last → Bytes s → (k : ℕ) → k < (steps_c c s (length rows) (length sends)).sends

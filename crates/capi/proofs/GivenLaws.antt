@@ -8,6 +8,7 @@ use native.Mathlib.Omega.{arith}
 use lib.Dec.{ltb, leb, eqb}
 use lib.ListN.{length, take as front, drop}
 use borrow.Author.Tests.{ltb-true, ltb-false, leb-false, eqb-false}
+use Rattle.std.specs.Prelude.{Option, Some, None}
 use Rattle.tables.specs.declared.dictionary.Field.TheVariants.{TestRequestId, GapFill as GapFillField}
 use Rattle.tables.specs.Tables.{row_of}
 use Rattle.wire.specs.Number.{Bytes, number}
@@ -37,8 +38,8 @@ use Rattle.session.specs.declared.arrival.Content.TheVariants.{
 use Rattle.session.specs.declared.arrival.Message.{Message}
 use Rattle.session.specs.declared.arrival.Arrival.{Arrival}
 use Rattle.session.specs.declared.arrival.Arrival.TheVariants.{Refused, Good}
-use Rattle.session.specs.declared.state.Code.{Code}
-use Rattle.session.specs.declared.state.Code.TheVariants as code
+use Rattle.session.specs.declared.state.Fault.{Fault}
+use Rattle.session.specs.declared.state.Fault.TheVariants as fault
 use Rattle.session.specs.declared.state.Halt.{Halt}
 use Rattle.session.specs.declared.state.Halt.TheVariants as halt
 use Rattle.session.specs.declared.state.State.{State}
@@ -135,7 +136,7 @@ range-given o start end =
     (λ t. either P (leb o start) (λ u h. absurd (true≢false h))
     (λ u h. gap-fill (omega (arith, eqb-false start 0 t)) (fill-above o start end (leb-false o start u) h)))
 
-unmoved-gives : (s : Session) (k : Code) → Gives (unmoved s k)
+unmoved-gives : (s : Session) (k : Option Fault) → Gives (unmoved s k)
 unfolding unmoved
 unmoved-gives s k = record { first = nothing; second = nothing }
 
@@ -154,7 +155,7 @@ slots-give t fill second g h =
 
 -- the rules on a session that is not Down
 module _ (s : Session) (e : 1 ≤ s.expected) (two : 2 ≤ s.own) (within : s.own ≤ last) where
-  leave-gives : (k : Code) (x : ℕ) (w : Row) → Gives (leave s k x w)
+  leave-gives : (k : Option Fault) (x : ℕ) (w : Row) → Gives (leave s k x w)
   unfolding leave
   leave-gives k x w =
       either Gives (ltb s.own last)
@@ -163,7 +164,7 @@ module _ (s : Session) (e : 1 ≤ s.expected) (two : 2 ≤ s.own) (within : s.ow
 
   stop-gives : (k : Halt) → Gives (stop s k)
   unfolding stop
-  stop-gives k = leave-gives (code.Halted k) s.expected row.Nothing
+  stop-gives k = leave-gives (Some (fault.Halted k)) s.expected row.Nothing
 
   -- where O is not the last number, it is below it
   own_below : eqb s.own last ≡ false → s.own < last
@@ -212,12 +213,12 @@ module _ (s : Session) (e : 1 ≤ s.expected) (two : 2 ≤ s.own) (within : s.ow
   logout-gives : (n : ℕ) → Gives (logout_rule s n)
   unfolding logout_rule
   logout-gives n =
-      either Gives (is_due s n) (λ t. leave-gives code.Good (n + 1) (row.Session n)) (λ t. leave-gives code.Good s.expected row.Nothing)
+      either Gives (is_due s n) (λ t. leave-gives None (n + 1) (row.Session n)) (λ t. leave-gives None s.expected row.Nothing)
 
   -- 6
   lower-gives : (possdup : Bool) → Gives (lower s possdup)
   unfolding lower
-  lower-gives possdup = either Gives possdup (λ t. unmoved-gives s code.Good) (λ t. stop-gives halt.StopNumber)
+  lower-gives possdup = either Gives possdup (λ t. unmoved-gives s None) (λ t. stop-gives halt.StopNumber)
 
   -- 7
   request-gives : (a r : ℕ) (fill : Send) → Given fill → s.expected < last → Gives (request s a r fill)
@@ -297,16 +298,16 @@ module _ (s : Session) (e : 1 ≤ s.expected) (two : 2 ≤ s.own) (within : s.ow
 
     ruled-in-gives : (p : State) → Gives (ruled_in p s m)
     unfolding ruled_in
-    ruled-in-gives Down = unmoved-gives s (code.Halted halt.Down)
+    ruled-in-gives Down = unmoved-gives s (Some (fault.Halted halt.Down))
     ruled-in-gives Waiting = for-us-gives (waiting s m.number m.content) (waiting-gives m.number m.content)
     ruled-in-gives Live = for-us-gives (live s m.number m.possdup m.content) (live-gives m.content numbered-gives)
 
   arrived-gives : (a : Arrival) → ((m : Message) → a ≡ Good m → Narrow m) → Gives (arrived s a)
   unfolding arrived refused ruled
   arrived-gives (Refused r) h =
-      either Gives (eqb (number_of r) short) (λ t. unmoved-gives s (code.Refused r))
-      (λ t. either Gives (eqb (number_of r) bad_sum) (λ u. unmoved-gives s (code.Refused r))
-      (λ u. leave-gives (code.Refused r) s.expected row.Nothing))
+      either Gives (eqb (number_of r) short) (λ t. unmoved-gives s (Some (fault.Refused r)))
+      (λ t. either Gives (eqb (number_of r) bad_sum) (λ u. unmoved-gives s (Some (fault.Refused r)))
+      (λ u. leave-gives (Some (fault.Refused r)) s.expected row.Nothing))
   arrived-gives (Good m) h = ruled-in-gives m (h m refl) s.state
 
 -- the reader's message has such widths
@@ -350,7 +351,7 @@ module _ (s : Session) (h : Standing s) (within : s.own ≤ last) (b : List ℕ)
 
   step-in-gives : (p : State) → s.state ≡ p → Gives (step_in p s b (read_of b))
   unfolding step_in arrival_of
-  step-in-gives Down e = unmoved-gives s (code.Halted halt.Down)
+  step-in-gives Down e = unmoved-gives s (Some (fault.Halted halt.Down))
   step-in-gives Waiting e = up-gives (λ d. let z : ◌≡◌ {A = ℕ} 0 1 = cc in omega arith)
   step-in-gives Live e = up-gives (λ d. let z : ◌≡◌ {A = ℕ} 0 1 = cc in omega arith)
 

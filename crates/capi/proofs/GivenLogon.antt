@@ -8,7 +8,7 @@ use mathlib.Core.Logic.{◌⊎◌}
 use native.Mathlib.Omega.{arith}
 use lib.Dec.{eqb}
 use lib.ListN.{length}
-use Rattle.std.specs.Prelude.{Ok}
+use Rattle.std.specs.Prelude.{Ok, Some, None}
 use Rattle.wire.specs.declared.text.Allowed.TheVariants.{Ascii}
 use Rattle.wire.specs.Text.{fixed_part}
 use Rattle.wire.proofs.TestLaws.{either}
@@ -17,7 +17,7 @@ use Rattle.message.specs.declared.refusal.Refusal.TheVariants.{BadField}
 use Rattle.message.specs.Refusal.{number_of}
 use Rattle.message.specs.Vet.{good_comp_id}
 use Rattle.session.specs.declared.day.Connected.{Connected}
-use Rattle.session.specs.declared.state.Code.TheVariants.{Good, Refused}
+use Rattle.session.specs.declared.state.Fault.TheVariants.{Refused}
 use Rattle.session.specs.declared.state.Session.{Session}
 use Rattle.session.specs.declared.state.State.{State}
 use Rattle.session.specs.declared.state.State.TheVariants.{Down, Waiting, Live}
@@ -37,7 +37,7 @@ use Rattle.capi.proofs.SessionLaws.{own-counted, connect-passes}
 
 -- a Connect that is not refused: the session waits, and as the text writer takes the password, the Logon is good
 abbrev waits : Session → Connected
-waits s = record { session = moved s Waiting s.expected (s.own + 1) 0; code = Good; number = s.own; next = s.expected }
+waits s = record { session = moved s Waiting s.expected (s.own + 1) 0; code = None; number = s.own; next = s.expected }
 
 abbrev LaidBy : List ℕ → Type 0
 LaidBy password = (n next : ℕ) (comp_id d : List ℕ) → 1 ≤ n → good_comp_id comp_id ≡ true → shown_written (logon_of n password next comp_id d) ≡ by_room logon_size (length d)
@@ -51,7 +51,7 @@ unfolding connect_in not_connected code_number halt_number number_of logon_of en
 connect-in-good Down s password =
     let P : Connected → Type 0 = λ r. code_number r.code ≡ 0 → Connects s password r in
     either P (eqb s.own last) (λ t z. absurd (omega arith))
-    (λ t. either P _ {y = not_connected s (Refused (BadField 0))}
+    (λ t. either P _ {y = not_connected s (Some (Refused (BadField 0)))}
     (λ u z. record {
       laid = λ n next comp_id d h g.
           let w : (y : List ℕ) → 512 ≤ length y → logon_of n password next comp_id y ≡ Ok 512 = λ y r. logon-written n h comp_id g y password next u r in

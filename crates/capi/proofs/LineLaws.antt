@@ -3,7 +3,8 @@ use Prim.Native.Nat.{ℕ}
 use mathlib.Core.Path.{◌≡◌, refl, ap, ◌∙◌}
 use mathlib.Core.Bool.{Bool, true, false, cond, ◌&&◌}
 use native.Mathlib.Omega.{arith}
-use Rattle.session.specs.declared.state.Code.TheVariants.{Good, Halted}
+use Rattle.std.specs.Prelude.{Some, None}
+use Rattle.session.specs.declared.state.Fault.TheVariants.{Halted}
 use Rattle.session.specs.declared.state.Halt.TheVariants.{NotASession}
 use Rattle.session.specs.Day.{not_made}
 use Rattle.session.specs.Held.{state_at, is_held, held}
@@ -25,14 +26,14 @@ pub record NotTakenIn (c : CLine) (k : ℕ) : Type 0 where
 
 module _ (c : CLine) where
   abbrev answer : Bool → LineMade
-  answer b = cond b (record { code = Day Good; line = line_in c }) (not_a_line (Day (Halted NotASession)))
+  answer b = cond b (record { code = Day None; line = line_in c }) (not_a_line (Day (Some (Halted NotASession))))
 
   -- the session decides first, and then the clock and the waits
   held-line : held_in c ≡ answer (is_line c)
   unfolding held_line held is_line is_session code_number halt_number not_made
   held-line = go (is_held c.session.state c.session.ours c.session.expected c.session.own c.session.ahead c.session.repeats)
     where
-      go : (b : Bool) → held_line (cond b (record { code = Good; session = session_in c.session }) (not_made (Halted NotASession)))
+      go : (b : Bool) → held_line (cond b (record { code = None; session = session_in c.session }) (not_made (Some (Halted NotASession))))
           c.interval c.tested c.now c.sent c.heard
           ≡ answer (b && is_held_line (is_live (state_at c.session.state)) c.interval c.tested c.now c.sent c.heard)
       go true = refl

@@ -5,6 +5,7 @@ use mathlib.Core.List.{List}
 use native.Mathlib.Omega.{arith}
 use lib.Dec.{eqb}
 use borrow.Author.Tests.{eqb-false}
+use Rattle.std.specs.Prelude.{Option, Some}
 use Rattle.tables.specs.declared.dictionary.Field.TheVariants.{Password}
 use Rattle.tables.specs.Dictionary.{sort_of, width_of}
 use Rattle.wire.specs.declared.text.Allowed.TheVariants.{Ascii}
@@ -14,8 +15,8 @@ use Rattle.message.specs.declared.refusal.Refusal.TheVariants.{BadHeader}
 use Rattle.message.specs.Vet.{good_comp_id}
 use Rattle.session.specs.declared.day.Connected.{Connected}
 use Rattle.session.specs.declared.day.Made.{Made}
-use Rattle.session.specs.declared.state.Code.{Code}
-use Rattle.session.specs.declared.state.Code.TheVariants as code
+use Rattle.session.specs.declared.state.Fault.{Fault}
+use Rattle.session.specs.declared.state.Fault.TheVariants as fault
 use Rattle.session.specs.declared.state.Halt.TheVariants as halt
 use Rattle.session.specs.declared.state.State.{State}
 use Rattle.session.specs.declared.state.State.TheVariants.{Down, Waiting, Live}
@@ -89,13 +90,13 @@ standing-kept {s = s} {t = t} f h = go s.state refl
     go Live e = up-standing f (λ d. let z : ◌≡◌ {A = ℕ} 0 1 = cc in omega arith) h
 
 -- a day begins with it
-not-made-standing : (k : Code) → Standing (not_made k).session
+not-made-standing : (k : Option Fault) → Standing (not_made k).session
 unfolding not_made
 not-made-standing k = down-standing _ 1 1 (omega arith) (omega arith)
 
 day-standing : (comp_id : List ℕ) (e o : ℕ) → 1 ≤ e → 1 ≤ o → Standing (day comp_id e o).session
 unfolding day
-day-standing comp_id e o h l = either (λ (r : Made). Standing r.session) (good_comp_id comp_id) (λ t. down-standing _ e o h l) (λ t. not-made-standing (code.Refused BadHeader))
+day-standing comp_id e o h l = either (λ (r : Made). Standing r.session) (good_comp_id comp_id) (λ t. down-standing _ e o h l) (λ t. not-made-standing (Some (fault.Refused BadHeader)))
 
 pub fresh-standing : (comp_id : List ℕ) → Standing (fresh comp_id).session
 unfolding fresh
@@ -104,8 +105,8 @@ fresh-standing comp_id = day-standing comp_id 1 1 (omega arith) (omega arith)
 pub saved-standing : (comp_id : List ℕ) (e o : ℕ) → Standing (saved comp_id e o).session
 unfolding saved
 saved-standing comp_id e o =
-    either (λ (r : Made). Standing r.session) (eqb e 0) (λ t. not-made-standing (code.Halted halt.BadSaved))
-    (λ t. either (λ (r : Made). Standing r.session) (eqb o 0) (λ u. not-made-standing (code.Halted halt.BadSaved))
+    either (λ (r : Made). Standing r.session) (eqb e 0) (λ t. not-made-standing (Some (fault.Halted halt.BadSaved)))
+    (λ t. either (λ (r : Made). Standing r.session) (eqb o 0) (λ u. not-made-standing (Some (fault.Halted halt.BadSaved)))
     (λ u. day-standing comp_id e o (omega (arith, eqb-false e 0 t)) (omega (arith, eqb-false o 0 u))))
 
 -- so every session of a day stands so

@@ -18,7 +18,7 @@ use line::tick::{Act, Ticked};
 use message::frame::front_length;
 use message::read::read;
 use session::held::LIVE;
-use session::state::{ROW_BUSINESS, Row, SEND_NONE};
+use session::state::{ROW_BUSINESS, Row, SEND_NONE, code_besides, code_number};
 
 fn line_shown(l: Line) -> CLine
     ensures { result ≡ shown_line l }
@@ -95,11 +95,11 @@ fn line_connected_shown(x: LineConnected) -> CLineConnected
     let line = x.line;
     let code = x.code;
     CLineConnected {
-        refusal: code.number(),
+        refusal: code_number(code),
         line: line_shown(line),
         number: x.number,
         next: x.next,
-        besides: code.besides(),
+        besides: code_besides(code),
     }
 }
 
@@ -147,13 +147,13 @@ fn line_stepped_shown(x: LineStepped, used: usize) -> CLineStepped
     let row = answer.row;
     let code = answer.code;
     CLineStepped {
-        refusal: code.number(),
+        refusal: code_number(code),
         line: line_shown(line),
         first: send_shown(first),
         second: send_shown(second),
         row: row_shown(row),
         used,
-        besides: code.besides(),
+        besides: code_besides(code),
     }
 }
 
@@ -229,7 +229,7 @@ fn line_done_shown(x: LineDone) -> CLineDone
     let ended = x.ended;
     let code = x.code;
     CLineDone {
-        refusal: code.number(),
+        refusal: code_number(code),
         line: line_shown(line),
         used: x.used,
         rows: x.rows,
@@ -296,7 +296,7 @@ fn ticked_shown(x: Ticked) -> CTicked
     let code = x.code;
     let act = x.act;
     CTicked {
-        refusal: code.number(),
+        refusal: code_number(code),
         act: act_number(act),
         line: line_shown(line),
         send: act_send(act),

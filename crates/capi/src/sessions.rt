@@ -20,7 +20,8 @@ use session::day::{Connected, Made};
 use session::held::{DOWN, LIVE, WAITING};
 use session::state::{
     LAST, MOST_ID, ROW_BUSINESS, Row, SEND_GAP_FILL, SEND_HEARTBEAT, SEND_LOGOUT, SEND_NONE,
-    SEND_RESEND_REQUEST, Send, Session, Stepped, ahead_at, first_of, last_of, sort_number, told,
+    SEND_RESEND_REQUEST, Send, Session, Stepped, ahead_at, code_besides, code_number, first_of,
+    last_of, sort_number, told,
 };
 use wire::text::{Allowed, fixed_part};
 use writer::send::{
@@ -69,7 +70,7 @@ fn made_shown(m: Made) -> CMade
 {
     let s = m.session;
     let code = m.code;
-    made(code.number(), session_shown(s))
+    made(code_number(code), session_shown(s))
 }
 
 // A fresh day.
@@ -92,11 +93,11 @@ fn connected_shown(x: Connected) -> CConnected
     let s = x.session;
     let code = x.code;
     CConnected {
-        refusal: code.number(),
+        refusal: code_number(code),
         session: session_shown(s),
         number: x.number,
         next: x.next,
-        besides: code.besides(),
+        besides: code_besides(code),
     }
 }
 
@@ -107,7 +108,7 @@ pub fn connect_c(c: CSession, password: &[u8]) -> CConnected
     let held = session_in(c);
     let session = held.session;
     let code = held.code;
-    let refusal = code.number();
+    let refusal = code_number(code);
     if refusal != 0 {
         return CConnected {
             refusal,
@@ -127,7 +128,7 @@ pub fn drop_c(c: CSession) -> CMade
     let held = session_in(c);
     let session = held.session;
     let code = held.code;
-    let refusal = code.number();
+    let refusal = code_number(code);
     if refusal != 0 {
         return made(refusal, c);
     }
@@ -172,13 +173,13 @@ fn stepped_shown(x: Stepped, used: usize) -> CStepped
     let row = answer.row;
     let code = answer.code;
     CStepped {
-        refusal: code.number(),
+        refusal: code_number(code),
         session: session_shown(s),
         first: send_shown(first),
         second: send_shown(second),
         row: row_shown(row),
         used,
-        besides: code.besides(),
+        besides: code_besides(code),
     }
 }
 
@@ -256,7 +257,7 @@ pub fn step_c(c: CSession, s: &[u8]) -> CStepped
     let held = session_in(c);
     let session = held.session;
     let code = held.code;
-    let refusal = code.number();
+    let refusal = code_number(code);
     if refusal != 0 {
         return not_stepped(c, refusal);
     }
@@ -281,7 +282,7 @@ pub(crate) fn ended_code(ended: Ended) -> u32
 {
     match ended {
         Ended::Short(_) => 0,
-        Ended::Down(code) => code.number(),
+        Ended::Down(code) => code_number(code),
         Ended::NoSlot => 0,
     }
 }
@@ -291,7 +292,7 @@ pub(crate) fn ended_besides(ended: Ended) -> usize
 {
     match ended {
         Ended::Short(n) => n,
-        Ended::Down(code) => code.besides(),
+        Ended::Down(code) => code_besides(code),
         Ended::NoSlot => 0,
     }
 }
@@ -303,7 +304,7 @@ fn done_shown(x: Done) -> CDone
     let ended = x.ended;
     let code = x.code;
     CDone {
-        refusal: code.number(),
+        refusal: code_number(code),
         session: session_shown(s),
         used: x.used,
         rows: x.rows,
@@ -321,7 +322,7 @@ pub fn steps_c(c: CSession, s: &[u8], rows: &mut [u32], sends: &mut [u32]) -> CD
     let held = session_in(c);
     let session = held.session;
     let code = held.code;
-    let refusal = code.number();
+    let refusal = code_number(code);
     if refusal != 0 {
         return CDone {
             refusal,
@@ -388,7 +389,7 @@ pub fn send_c(d: &mut [u8], c: CSession, x: CSend) -> CWritten
 {
     let held = session_in(c);
     let code = held.code;
-    let refusal = code.number();
+    let refusal = code_number(code);
     if refusal != 0 {
         return wrote(refusal, 0, 0);
     }
@@ -405,7 +406,7 @@ pub fn logon_c(d: &mut [u8], c: CSession, password: &[u8]) -> CWritten
 {
     let held = session_in(c);
     let code = held.code;
-    let refusal = code.number();
+    let refusal = code_number(code);
     if refusal != 0 {
         return wrote(refusal, 0, 0);
     }

@@ -51,8 +51,8 @@ struct Took {
     next: Next,
 }
 
-// Where the unread bytes of the input buffer begin and end, and whether the input has ended. (No `Vec` holds them: the
-// program has no heap.)
+// Where the unread bytes of the input buffer begin and end, and whether the input has ended: a line may be left when it has.
+// (No `Vec` holds them: the program has no heap.)
 #[derive(Clone, Copy)]
 struct Unread {
     from: usize,

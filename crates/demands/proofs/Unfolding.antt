@@ -14,13 +14,13 @@ use native.Mathlib.Omega.{arith}
 use lib.Dec.{eqb}
 use lib.ListN.{length, take, drop}
 use lib.Seq.{drop-drop}
-use Rattle.std.specs.Prelude.{Result, Ok, Err}
+use Rattle.std.specs.Prelude.{Result, Ok, Err, Option, Some, None}
 use Rattle.message.specs.declared.refusal.Refusal.{Refusal}
 use Rattle.message.specs.declared.read.Reading.{Reading}
 use Rattle.message.specs.Frame.{front_length}
 use Rattle.message.specs.Read.{read_of}
-use Rattle.session.specs.declared.state.Code.{Code}
-use Rattle.session.specs.declared.state.Code.TheVariants as code
+use Rattle.session.specs.declared.state.Fault.{Fault}
+use Rattle.session.specs.declared.state.Fault.TheVariants as fault
 use Rattle.session.specs.declared.state.Row.{Row}
 use Rattle.session.specs.declared.state.Row.TheVariants as row
 use Rattle.session.specs.declared.state.Session.{Session}
@@ -167,7 +167,7 @@ pub call-lent : (s : Session) (b : List ℕ) (r q : ℕ) → Lent s b (called s 
 unfolding called called_by handed_rows
 call-lent s b r q = go (refusal_in s.state r q)
   where
-    go : (k : Code) → Lent s b (called_by k s b r q).session (handed_rows b (called_by k s b r q).rows)
-    go code.Good = course-lent b 0 r q s
-    go (code.Refused x) = none_lent s b
-    go (code.Halted h) = none_lent s b
+    go : (k : Option Fault) → Lent s b (called_by k s b r q).session (handed_rows b (called_by k s b r q).rows)
+    go None = course-lent b 0 r q s
+    go (Some (fault.Refused x)) = none_lent s b
+    go (Some (fault.Halted h)) = none_lent s b

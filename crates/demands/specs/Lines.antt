@@ -1,6 +1,5 @@
 -- Demand 3 for lines with a clock (document 02, item 2): ticks may come anywhere, and a timeout is a dropped line.
-use Rattle.std.specs.Prelude.{ℕ, ◌*◌, ◌≤◌, ◌≡◌, List, [], ◌∷◌, ◌++◌, length}
-use Rattle.session.specs.declared.state.Code.TheVariants.{Good}
+use Rattle.std.specs.Prelude.{ℕ, ◌*◌, ◌≤◌, ◌≡◌, List, [], ◌∷◌, ◌++◌, length, None}
 use Rattle.session.specs.declared.state.Send.TheVariants.{Nothing}
 use Rattle.session.specs.declared.state.State.TheVariants.{Live}
 use Rattle.session.specs.State.{last}
@@ -54,7 +53,7 @@ pub data Among : Line → List (List ℕ) → List Happening → Type 0 where
 -- nothing is said. Each by the line that those before it leave
 pub data QuietLine : Line → List Happening → Type 0 where
   none : {l : Line} → QuietLine l []
-  quiet_step : {l : Line} {t : ℕ} {b : List ℕ} {hs : List Happening} → (step_line l t b).answer.code ≡ Good → (step_line l t b).answer.first ≡ Nothing
+  quiet_step : {l : Line} {t : ℕ} {b : List ℕ} {hs : List Happening} → (step_line l t b).answer.code ≡ None → (step_line l t b).answer.first ≡ Nothing
       → (step_line l t b).answer.second ≡ Nothing → QuietLine (after_line l (lends t b)) hs → QuietLine l (lends t b ∷ hs)
   quiet-call : {l : Line} {t r q : ℕ} {b : List ℕ} {hs : List Happening} → (called l.session b r q).sends ≡ []
       → (called l.session b r q).after ≡ Short 3 → QuietLine (after_line l (many t b r q)) hs → QuietLine l (many t b r q ∷ hs)

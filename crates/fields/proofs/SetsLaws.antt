@@ -5,8 +5,12 @@ use mathlib.Core.Bool.{Bool, true, false, cond, not}
 use mathlib.Core.List.{List}
 use Prim.Native.Nat.{ℕ, ◌+◌, ◌≤◌, ◌<◌}
 use native.Mathlib.Omega.{arith}
-use borrow.Author.Tests.{lt-ltb, ltb-true, ltb-false}
-use lib.Dec.{ltb}
+use borrow.Author.Tests.{lt-ltb, ltb-true, ltb-false, eqb-true, eqb-false}
+use denote.Enum.Bare.{sameb, true_same, false_same}
+use lib.Dec.{eqb, ltb}
+use Rattle.tables.specs.contracts.dictionary.Field.{the_type}
+use Rattle.tables.specs.Dictionary.{row_number}
+use Rattle.tables.proofs.Agree.{one_number}
 use Rattle.tables.specs.declared.dictionary.Field.{Field}
 use Rattle.tables.specs.declared.table.Row.{Row}
 use Rattle.tables.specs.Line.{is_required}
@@ -139,3 +143,11 @@ module _ (messagetype : ℕ) (f : Field) where
   pub position-stands : position_of (row_of messagetype) f < 256 → stands_at (row_of messagetype) f (position_of (row_of messagetype) f) ≡ true
   unfolding position_of
   position-stands l = first_found (stands_at (row_of messagetype) f) 256 0 (omega arith)
+
+-- two fields are the same where their numbers are
+pub same_number : (f g : Field) → sameb the_type f g ≡ eqb (row_number f) (row_number g)
+same_number f g = go (eqb (row_number f) (row_number g)) refl
+  where
+    go : (b : Bool) → eqb (row_number f) (row_number g) ≡ b → sameb the_type f g ≡ b
+    go true e = true_same the_type f g (one_number f g (eqb-true (row_number f) (row_number g) e))
+    go false e = false_same the_type tt f g (λ q. eqb-false (row_number f) (row_number g) e (ap row_number q))

@@ -4,7 +4,7 @@ ghost use Rattle.tables.specs.Tables.{row_of};
 ghost use Rattle.fields.specs.Sets.{unknown_at, missing_at, lowest_unknown, lowest_missing, is_row_of, position_of};
 
 use crate::words::{is_low, required_word, unknown_word, word_at};
-use tables::dictionary::{Field, row_number};
+use tables::dictionary::Field;
 use tables::table::{Row, row_of, span_of};
 use wire::map::{MAP_POSITIONS, is_present};
 
@@ -24,7 +24,8 @@ fn is_missing(messagetype: u8, map: &[u8], p: usize) -> bool
     row_of(messagetype, p).is_required() && !is_present(map, p)
 }
 
-// The lowest set position that the type does not know, one by one.
+// The lowest set position that the type does not know, one by one. Each search here has its own loop: they differ in the test and
+// in how far they look, and beside these a shared one would leave nothing but the call.
 fn search_unknown(messagetype: u8, map: &[u8]) -> Option<usize>
     ensures { result ≡ lowest_unknown (row_of messagetype) map.now }
 {
@@ -72,18 +73,19 @@ pub fn lowest_missing(messagetype: u8, map: &[u8]) -> Option<usize>
     None
 }
 
-// Whether the row names the field. By the names' numbers, as the definition has it: that == says the same was tried, and not proved.
-#[tactic(auto, unfolding(crate::specs::Sets::is_row_of, tables::specs::Line::field_of))]
+// Whether the row names the field.
+#[tactic(auto, using(crate::proofs::SetsLaws::same_number), unfolding(crate::specs::Sets::is_row_of, tables::specs::Line::field_of))]
 fn is_row_of(field: Field, row: Row) -> bool
     ensures { result ≡ is_row_of field row }
 {
     match row.field() {
-        Some(named) => row_number(field) == row_number(named),
+        Some(named) => field == named,
         None => false,
     }
 }
 
-// The field's position in a message of this type; MAP_POSITIONS, which no map has, where its tables do not name the field.
+// The field's position in a message of this type; MAP_POSITIONS, which no map has, where its tables do not name the field. A
+// number and no Option: the promise gives that position to such a field, and refusal 7 bears it to whoever asked.
 pub fn position_of(messagetype: u8, field: Field) -> usize
     ensures { result ≡ position_of (row_of messagetype) field }
 {

@@ -30,6 +30,7 @@ fn characters_word(sort: Sort) -> &'static str {
     }
 }
 
+// Replay has these lines for a buffered writer.
 fn print_name(rt: &impl Print, field: Field) -> io::Result<()> {
     let mut name = [0u8; 64];
     let laid = put_name(&mut name, field);

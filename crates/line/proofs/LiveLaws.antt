@@ -3,6 +3,7 @@ use Prim.Native.Nat.{ℕ}
 use mathlib.Core.Bool.{Bool}
 use mathlib.Core.List.{List}
 use lib.Dec.{eqb, leb, ltb}
+use Rattle.std.specs.Prelude.{Option}
 use Rattle.wire.proofs.TestLaws.{either}
 use Rattle.message.specs.Read.{read_of}
 use Rattle.message.specs.Refusal.{number_of, short, bad_sum}
@@ -22,7 +23,7 @@ use Rattle.session.specs.declared.arrival.Content.TheVariants.{
   Business,
 }
 use Rattle.session.specs.declared.arrival.Message.{Message}
-use Rattle.session.specs.declared.state.Code.{Code}
+use Rattle.session.specs.declared.state.Fault.{Fault}
 use Rattle.session.specs.declared.state.Halt.{Halt}
 use Rattle.session.specs.declared.state.Row.{Row}
 use Rattle.session.specs.declared.state.Send.{Send}
@@ -63,7 +64,7 @@ abbrev Leaves : Stepped → Type 0
 Leaves r = LiveOrDown r.session.state
 
 module _ (s : Session) (h : LiveOrDown s.state) where
-  leave-so : (k : Code) (e : ℕ) (w : Row) → Leaves (leave s k e w)
+  leave-so : (k : Option Fault) (e : ℕ) (w : Row) → Leaves (leave s k e w)
   unfolding leave
   leave-so k e w = either Leaves (ltb s.own last) (λ t. off) (λ t. off)
 

@@ -7,13 +7,14 @@ use native.Mathlib.Omega.{arith}
 use lib.Dec.{eqb}
 use lib.ListN.{length, drop}
 use borrow.Author.Tests.{ne_eqb, eqb-false}
+use Rattle.std.specs.Prelude.{Option, Some, None}
 use Rattle.wire.proofs.TestLaws.{either}
 use Rattle.message.specs.declared.refusal.Refusal.TheVariants.{NoRoom}
 use Rattle.message.specs.Frame.{front_length}
 use Rattle.message.specs.Refusal.{number_of}
 use Rattle.session.specs.declared.state.Answer.{Answer}
-use Rattle.session.specs.declared.state.Code.{Code}
-use Rattle.session.specs.declared.state.Code.TheVariants.{Good, Refused, Halted}
+use Rattle.session.specs.declared.state.Fault.{Fault}
+use Rattle.session.specs.declared.state.Fault.TheVariants.{Refused, Halted}
 use Rattle.session.specs.declared.state.Halt.TheVariants as halt
 use Rattle.session.specs.declared.state.Send.{Send}
 use Rattle.session.specs.declared.state.Session.{Session}
@@ -146,19 +147,19 @@ abbrev done_line : Line → ℕ → Done → Line
 done_line l t x = moved_line l t x.session x.heard (is_sending x)
 
 module _ (l : Line) (t : ℕ) (b : List ℕ) (r q : ℕ) (h : Stands l) where
-  abbrev Single : Code → Type 0
+  abbrev Single : Option Fault → Type 0
   Single k = (n : ℕ) × (done_line l t (report_of k (called_by k l.session b r q)) ≡ timed (singles_line n l t b) t)
 
   -- a refusal is no step, and a call that is not refused some
-  down-single : Single (Halted halt.Down)
+  down-single : Single (Some (Halted halt.Down))
   unfolding report_of called_by slots_by is_sending code_number halt_number singles_line
   down-single = (0, moved_same l t h)
 
-  full-single : (n : ℕ) → Single (Refused (NoRoom n))
+  full-single : (n : ℕ) → Single (Some (Refused (NoRoom n)))
   unfolding report_of called_by slots_by is_sending code_number number_of singles_line
   full-single n = (0, moved_same l t h)
 
-  good-single : (l.session.state ≡ Down → ⊥) → Single Good
+  good-single : (l.session.state ≡ Down → ⊥) → Single None
   unfolding report_of called_by slots_by is_sending code_number any
   good-single u =
       let w = single-steps 0 r q l.session b u in

@@ -10,7 +10,7 @@ use lib.Dec.{eqb, leb, ltb}
 use borrow.Author.Tests.{ltb-true, ltb-false, leb-true, leb-false, eqb-true, eqb-false, eq-eqb, ne_eqb, not-true}
 use Rattle.wire.proofs.TestLaws.{either, and-true}
 use Rattle.session.specs.declared.day.Owned.{Owned}
-use Rattle.session.specs.declared.state.Code.TheVariants.{Good, Halted}
+use Rattle.session.specs.declared.state.Fault.TheVariants.{Halted}
 use Rattle.session.specs.declared.state.Halt.TheVariants.{NoNumber}
 use Rattle.session.specs.declared.state.Session.{Session}
 use Rattle.session.specs.declared.state.State.{State}
@@ -120,11 +120,11 @@ down-other a b = let z : ◌≡◌ {A = ℕ} 0 1 = cc in omega arith
 
 -- a number of ours: a Live session gives its O and stays Live, and with none left is dropped
 pub own-given : (s : Session) → s.state ≡ Live → (s.own ≡ last → ⊥)
-    → own_number s ≡ record { session = moved s Live s.expected (s.own + 1) s.ahead; code = Good; number = s.own }
+    → own_number s ≡ record { session = moved s Live s.expected (s.own + 1) s.ahead; code = None; number = s.own }
 unfolding own_number own_number_in
 own-given s e h = ap (λ (p : State). own_number_in p s) e ∙ rw (ne_eqb s.own last h)
 
-own-spent : (s : Session) → s.state ≡ Live → s.own ≡ last → own_number s ≡ not_owned (drop s) (Halted NoNumber)
+own-spent : (s : Session) → s.state ≡ Live → s.own ≡ last → own_number s ≡ not_owned (drop s) (Some (Halted NoNumber))
 unfolding own_number own_number_in
 own-spent s e h = ap (λ (p : State). own_number_in p s) e ∙ rw (eq-eqb s.own last h)
 
@@ -133,7 +133,7 @@ own-state s e h = ap (λ (o : Owned). o.session.state) (own-given s e h)
 
 -- a message with a number
 given-message : (x : Own) (l : Line) (t : ℕ) → l.session.state ≡ Live → (l.session.own ≡ last → ⊥)
-    → numbered x l t (own_number l.session) ≡ says (sent_line x l t) Good (Some (own_act x l.session.own))
+    → numbered x l t (own_number l.session) ≡ says (sent_line x l t) None (Some (own_act x l.session.own))
 unfolding numbered code_number
 given-message x l t e h =
     let g = own-given l.session e h in
@@ -141,14 +141,14 @@ given-message x l t e h =
 
 -- and one without
 spent-message : (x : Own) (l : Line) (t : ℕ) → l.session.state ≡ Live → l.session.own ≡ last
-    → numbered x l t (own_number l.session) ≡ says (drop_line l t) (Halted NoNumber) None
+    → numbered x l t (own_number l.session) ≡ says (drop_line l t) (Some (Halted NoNumber)) None
 unfolding numbered code_number halt_number drop_line not_owned
 spent-message x l t e h = ap (numbered x l t) (own-spent l.session e h)
 
 -- a message that is due has a number, or there is none
 message : (x : Own) (l : Line) (t : ℕ) → l.session.state ≡ Live
-    → ((l.session.own ≡ last → ⊥) → Acted l t (says (sent_line x l t) Good (Some (own_act x l.session.own))))
-    → (l.session.own ≡ last → Acted l t (says (drop_line l t) (Halted NoNumber) None)) → Acted l t (numbered x l t (own_number l.session))
+    → ((l.session.own ≡ last → ⊥) → Acted l t (says (sent_line x l t) None (Some (own_act x l.session.own))))
+    → (l.session.own ≡ last → Acted l t (says (drop_line l t) (Some (Halted NoNumber)) None)) → Acted l t (numbered x l t (own_number l.session))
 message x l t e given spent = go (eqb l.session.own last) refl
   where
     go : (b : Bool) → eqb l.session.own last ≡ b → Acted l t (numbered x l t (own_number l.session))
@@ -195,7 +195,7 @@ acted l t =
 pub not-due-rests : (l : Line) (t : ℕ) → (l.session.state ≡ Live → NothingDue l (later l.now t)) → Rests l t
 not-due-rests l t q = go (tick l t) (acted l t)
   where
-    go : (x : Ticked) → Acted l t x → x ≡ says (timed l t) Good None
+    go : (x : Ticked) → Acted l t x → x ≡ says (timed l t) None None
     go x (nothing h) = refl
     go x (down e d) = absurd (omega (arith, (q e).down))
     go x (test-request e f g u o) = absurd (omega (arith, (q e).test u))
@@ -206,7 +206,7 @@ not-due-rests l t q = go (tick l t) (acted l t)
 pub rests-not-due : (l : Line) (t : ℕ) → Rests l t → l.session.state ≡ Live → NothingDue l (later l.now t)
 rests-not-due l t r = go (tick l t) (acted l t) (ap (λ (x : Ticked). x.act) r) (ap (λ (x : Ticked). x.code) r)
   where
-    go : (x : Ticked) → Acted l t x → x.act ≡ None → x.code ≡ Good → l.session.state ≡ Live → NothingDue l (later l.now t)
+    go : (x : Ticked) → Acted l t x → x.act ≡ None → x.code ≡ None → l.session.state ≡ Live → NothingDue l (later l.now t)
     go x (nothing h) a c = h
     go x (down e d) a c = let z : ◌≡◌ {A = ℕ} 0 1 = cc in absurd (omega arith)
     go x (test-request e f g u o) a c = let z : ◌≡◌ {A = ℕ} 0 1 = cc in absurd (omega arith)

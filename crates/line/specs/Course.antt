@@ -1,7 +1,7 @@
 -- What the laws of a line speak of (document 02, item 2); `proofs/` has the laws, and `demands` those of demand 3.
 use Rattle.std.specs.Prelude.{ℕ, zero, suc, ◌+◌, ◌*◌, ◌<◌, ◌≤◌, true, false, ◌≡◌, List, [], ◌∷◌, ◌++◌, ◌⊎◌, drop, Some, None}
 use Rattle.message.specs.Frame.{front_length}
-use Rattle.session.specs.declared.state.Code.TheVariants.{Good, Halted}
+use Rattle.session.specs.declared.state.Fault.TheVariants.{Halted}
 use Rattle.session.specs.declared.state.Halt.TheVariants.{NoNumber}
 use Rattle.session.specs.declared.state.Session.{Session}
 use Rattle.session.specs.declared.state.State.TheVariants.{Down, Live}
@@ -56,7 +56,7 @@ pub record Stands (l : Line) : Type 0 where
 
 -- a tick at this time does nothing: it takes the time, and nothing else changes or is said
 abbrev pub Rests : Line → ℕ → Type 0
-Rests l t = tick l t ≡ says (timed l t) Good None
+Rests l t = tick l t ≡ says (timed l t) None None
 
 -- of a Live line: none of the three is due at the time n
 pub record NothingDue (l : Line) (n : ℕ) : Type 0 where
@@ -71,17 +71,17 @@ sent_line x l t = tested_line x (moved_line l t (day.own_number l.session).sessi
 -- all that a tick can answer, one of five, and what each comes of: nothing is due; Down; a Test Request; a Heartbeat; or a message is due and there is
 -- no number for it
 pub data Acted (l : Line) (t : ℕ) : Ticked → Type 0 where
-  nothing : (l.session.state ≡ Live → NothingDue l (later l.now t)) → Acted l t (says (timed l t) Good None)
-  down : l.session.state ≡ Live → l.heard + to_down * wait l ≤ later l.now t → Acted l t (says (drop_line l t) Good (Some act.Down))
+  nothing : (l.session.state ≡ Live → NothingDue l (later l.now t)) → Acted l t (says (timed l t) None None)
+  down : l.session.state ≡ Live → l.heard + to_down * wait l ≤ later l.now t → Acted l t (says (drop_line l t) None (Some act.Down))
   test-request : l.session.state ≡ Live → later l.now t < l.heard + to_down * wait l → l.heard + to_test_request * wait l ≤ later l.now t
       → l.tested ≡ false → (l.session.own ≡ last → ⊥)
-      → Acted l t (says (sent_line own.TestRequest l t) Good (Some (act.TestRequest l.session.own (id_of l.session.own))))
+      → Acted l t (says (sent_line own.TestRequest l t) None (Some (act.TestRequest l.session.own (id_of l.session.own))))
   heartbeat : l.session.state ≡ Live → later l.now t < l.heard + to_down * wait l
       → (l.tested ≡ false → later l.now t < l.heard + to_test_request * wait l) → l.sent + wait l ≤ later l.now t → (l.session.own ≡ last → ⊥)
-      → Acted l t (says (sent_line own.Heartbeat l t) Good (Some (act.Heartbeat l.session.own)))
+      → Acted l t (says (sent_line own.Heartbeat l t) None (Some (act.Heartbeat l.session.own)))
   no_number : l.session.state ≡ Live → later l.now t < l.heard + to_down * wait l
       → ((l.tested ≡ false) × (l.heard + to_test_request * wait l ≤ later l.now t)) ⊎ (l.sent + wait l ≤ later l.now t) → l.session.own ≡ last
-      → Acted l t (says (drop_line l t) (Halted NoNumber) None)
+      → Acted l t (says (drop_line l t) (Some (Halted NoNumber)) None)
 
 -- a session after a tick: as it was, dropped, or with a number of ours used
 pub data Turns (s : Session) : Session → Type 0 where

@@ -1,8 +1,8 @@
 -- A line with a clock (document 02, item 2): the calls that a session has, each at a time in milliseconds.
-use Rattle.std.specs.Prelude.{ℕ, Bool, true, false, cond, not, ◌&&◌, ◌||◌, ◌≡◌, List, [], eqb, leb, ltb, length}
+use Rattle.std.specs.Prelude.{ℕ, Bool, true, false, cond, not, ◌&&◌, ◌||◌, ◌≡◌, List, [], eqb, leb, ltb, length, Some}
 use Rattle.session.specs.declared.day.Connected.{Connected}
 use Rattle.session.specs.declared.day.Made.{Made}
-use Rattle.session.specs.declared.state.Code.TheVariants.{Halted}
+use Rattle.session.specs.declared.state.Fault.TheVariants.{Halted}
 use Rattle.session.specs.declared.state.Halt.TheVariants.{NotASession}
 use Rattle.session.specs.declared.state.Send.{Send}
 use Rattle.session.specs.declared.state.Session.{Session}
@@ -147,4 +147,4 @@ held_line made interval tested now sent heard =
       code = Day made.code;
       line = record { session = made.session; interval = interval; now = now; sent = sent; heard = heard; tested = eqb tested 1 };
     })
-    (not_a_line (Day (Halted NotASession)))
+    (not_a_line (Day (Some (Halted NotASession))))

@@ -1,8 +1,7 @@
 -- Document 02, item 2: tick, the one call that acts, and when the next one is due.
 use Rattle.std.specs.Prelude.{ℕ, ◌+◌, ◌*◌, ◌%◌, Bool, true, false, cond, not, ◌&&◌, ◌||◌, eqb, leb, ltb, Option, Some, None}
 use Rattle.session.specs.declared.day.Owned.{Owned}
-use Rattle.session.specs.declared.state.Code.{Code}
-use Rattle.session.specs.declared.state.Code.TheVariants.{Good}
+use Rattle.session.specs.declared.state.Fault.{Fault}
 use Rattle.session.specs.Day.{own_number}
 use Rattle.session.specs.State.{most_id, code_number}
 use Rattle.line.specs.declared.line.Line.{Line}
@@ -73,7 +72,7 @@ tested_line x l = record {
   tested = is_test x || l.tested;
 }
 
-abbrev pub says : Line → Code → Option Act → Ticked
+abbrev pub says : Line → Option Fault → Option Act → Ticked
 says l code x = record { line = l; code = code; act = x }
 
 -- a message with a number of ours: a Test Request, whose ID is that number modulo 65,536, or a Heartbeat without ID; 22 where there is no number
@@ -87,13 +86,13 @@ own_act own.Heartbeat n = act.Heartbeat n
 unfoldable pub numbered : Own → Line → ℕ → Owned → Ticked
 numbered x l t o =
     cond (eqb (code_number o.code) 0)
-    (says (tested_line x (moved_line l t o.session false true)) Good (Some (own_act x o.number)))
+    (says (tested_line x (moved_line l t o.session false true)) None (Some (own_act x o.number)))
     (says (moved_line l t o.session false false) o.code None)
 
 -- at most one of the three; Down is a dropped line
 unfoldable pub tick_by : Option Due → Line → ℕ → Ticked
-tick_by None l t = says (timed l t) Good None
-tick_by (Some due.Down) l t = says (drop_line l t) Good (Some act.Down)
+tick_by None l t = says (timed l t) None None
+tick_by (Some due.Down) l t = says (drop_line l t) None (Some act.Down)
 tick_by (Some (due.Message x)) l t = numbered x l t (own_number l.session)
 
 unfoldable pub tick : Line → ℕ → Ticked

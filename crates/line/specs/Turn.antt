@@ -1,9 +1,8 @@
 -- Business in its turn, on a line. No call's promise to C cites it: that a step takes it is a law, by which a step may answer it early.
-use Rattle.std.specs.Prelude.{ℕ, true, false, cond, List, eqb, Result}
+use Rattle.std.specs.Prelude.{ℕ, true, false, cond, List, eqb, Result, None}
 use Rattle.message.specs.declared.refusal.Refusal.{Refusal}
 use Rattle.message.specs.declared.read.Reading.{Reading}
 use Rattle.session.specs.declared.arrival.Due.{Due}
-use Rattle.session.specs.declared.state.Code.TheVariants.{Good}
 use Rattle.session.specs.declared.state.Row.TheVariants.{Business}
 use Rattle.session.specs.declared.state.Send.TheVariants.{Nothing}
 use Rattle.session.specs.Turn.{take_due}
@@ -21,4 +20,4 @@ take_due_line l t bytes r = let d : Due = take_due l.session bytes r in record {
 
 -- and what the step answers then: the line, which has taken number e
 abbrev pub due_stepped : Line → ℕ → LineStepped
-due_stepped l e = record { line = l; answer = record { code = Good; first = Nothing; second = Nothing; row = Business e } }
+due_stepped l e = record { line = l; answer = record { code = None; first = Nothing; second = Nothing; row = Business e } }

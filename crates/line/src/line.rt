@@ -8,7 +8,7 @@ use calls::{Done, Ended, is_heard, steps};
 use message::read::Reading;
 use message::refusal::Refusal;
 use session::day::Made;
-use session::state::{Answer, Code, Halt, Send, Session, State, Stepped};
+use session::state::{Answer, Fault, Halt, Send, Session, State, Stepped, code_number};
 
 // The least and the most seconds of an interval.
 const LEAST_INTERVAL: u32 = 1;
@@ -30,7 +30,7 @@ pub struct Line {
 // What making a line answers: what the day answers, or that its interval is outside the range.
 #[derive(Clone, Copy)]
 pub enum LineCode {
-    Day(Code),
+    Day(Option<Fault>),
     BadInterval,
 }
 
@@ -42,11 +42,12 @@ pub struct LineMade {
 }
 
 // Connect's answer, as the session gives it. This, a step's answer and business taken are no generic structs shared with the
-// session's: no function works on both, and each says by its member's name whether it holds a session or a line.
+// session's: no function works on both, and each says by its member's name whether it holds a session or a line. No Result: a
+// refused connect gives a line too, and its number and next are 0 then by its promise.
 #[derive(Clone, Copy)]
 pub struct LineConnected {
     pub line: Line,
-    pub code: Code,
+    pub code: Option<Fault>,
     pub number: u32,
     pub next: u32,
 }
@@ -59,7 +60,7 @@ pub struct LineStepped {
 }
 
 // Business in its turn, on a Live line: the line that has taken it, and its length. For any other message the line as it was,
-// and 0.
+// and 0: the session answers so, and the promise is said of both at once.
 #[derive(Clone, Copy)]
 pub struct LineDue {
     pub line: Line,
@@ -70,7 +71,7 @@ pub struct LineDue {
 #[derive(Clone, Copy)]
 pub struct LineDone {
     pub line: Line,
-    pub code: Code,
+    pub code: Option<Fault>,
     pub used: usize,
     pub rows: usize,
     pub sends: usize,
@@ -83,7 +84,7 @@ impl LineCode {
         ensures { result ≡ line_number self }
     {
         match self {
-            LineCode::Day(code) => code.number(),
+            LineCode::Day(code) => code_number(code),
             LineCode::BadInterval => 24,
         }
     }
@@ -126,7 +127,7 @@ fn line_of(made: Made, interval: u32) -> LineMade
 {
     let code = made.code;
     let session = made.session;
-    if code.number() != 0 {
+    if code_number(code) != 0 {
         return not_a_line(LineCode::Day(code));
     }
     if !is_interval(interval) {
@@ -138,20 +139,22 @@ fn line_of(made: Made, interval: u32) -> LineMade
     }
 }
 
-// A time earlier than the latest given counts as that latest.
+// A time earlier than the latest given counts as that latest: a rule, which every call with a time follows.
 pub(crate) fn later(now: u64, t: u64) -> u64
     ensures { result ≡ later now t }
 {
     now.max(t)
 }
 
+// Whether the state is Live: a word of the definitions, which the line and its ticks ask for in five places.
 pub(crate) fn is_live(state: State) -> bool
     ensures { result ≡ is_live state }
 {
     matches!(state, State::Live)
 }
 
-// Whether a wait goes on: the session was Live and stays so, and nothing ended the wait.
+// Whether a wait goes on: the session was Live and stays so, and nothing ended the wait. The three are facts of the moment, and
+// choose no step to run.
 #[tactic(auto, unfolding(crate::specs::Line::goes_on))]
 fn goes_on(before: bool, after: bool, ended: bool) -> bool
     ensures { result ≡ goes_on before after ended }
@@ -159,7 +162,8 @@ fn goes_on(before: bool, after: bool, ended: bool) -> bool
     before & (after & !ended)
 }
 
-// Since when a wait lasts: it goes on, or starts at n where the session is Live, and elsewhere there is none.
+// Since when a wait lasts: it goes on, or starts at n where the session is Live, and elsewhere there is none. The two flags are
+// facts, which `moved` knows.
 #[tactic(auto, unfolding(crate::specs::Line::wait_since))]
 fn wait_since(goes: bool, live: bool, n: u64, since: u64) -> u64
     ensures { result ≡ wait_since goes live n since }
@@ -182,7 +186,7 @@ fn is_sending(done: Done) -> bool
     ensures { result ≡ is_sending done }
 {
     let code = done.code;
-    (code.number() == 0) & (done.sends != 0)
+    (code_number(code) == 0) & (done.sends != 0)
 }
 
 // Whether these can be a line's interval, its clock and its waits. They come singly, since there is no line before this holds.
@@ -260,8 +264,8 @@ impl Line {
         let code = made.code;
         let session = made.session;
         let live = is_live(session.state());
-        if !((code.number() == 0) & is_held_line(live, interval, tested, now, sent, heard)) {
-            return not_a_line(LineCode::Day(Code::Halted(Halt::NotASession)));
+        if !((code_number(code) == 0) & is_held_line(live, interval, tested, now, sent, heard)) {
+            return not_a_line(LineCode::Day(Some(Fault::Halted(Halt::NotASession))));
         }
         LineMade {
             code: LineCode::Day(code),
@@ -276,7 +280,8 @@ impl Line {
         }
     }
 
-    // The line at time t with another session. Every call but a tick that does nothing makes its line here.
+    // The line at time t with another session. Every call but a tick that does nothing makes its line here. `heard` and `sent`
+    // are facts of what happened at t, and choose no step to run: a call may have done both, or neither.
     #[tactic(auto, unfolding(crate::specs::Line::moved_line))]
     pub(crate) fn moved(self, t: u64, session: Session, heard: bool, sent: bool) -> Line
         ensures { result ≡ moved_line self t session heard sent }

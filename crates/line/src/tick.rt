@@ -5,7 +5,7 @@ ghost use Rattle.session.specs.State.{last};
 ghost use Rattle.line.specs.Tick.{second, wait, reached, due_by, due_live, due_at, id_of, timed, tested_line, own_act, numbered, tick, at_time, earlier, silence_due, next_tick};
 
 use crate::line::{Line, is_live, later};
-use session::state::Code;
+use session::state::{Fault, code_number};
 
 // Milliseconds of a second.
 const SECOND: u64 = 1000;
@@ -45,7 +45,7 @@ pub enum Act {
 #[derive(Clone, Copy)]
 pub struct Ticked {
     pub line: Line,
-    pub code: Code,
+    pub code: Option<Fault>,
     pub act: Option<Act>,
 }
 
@@ -60,7 +60,7 @@ fn reached(since: u64, wait: u64, n: u64) -> bool
     wait <= n - since
 }
 
-// The three in their order.
+// The three in their order. They are facts of the time, of which several may hold at once; which comes first is decided here.
 #[tactic(auto, unfolding(crate::specs::Tick::due_by))]
 fn due_by(down: bool, test: bool, beat: bool) -> Option<Due>
     ensures { result ≡ due_by down test beat }
@@ -172,7 +172,7 @@ impl Line {
         let owned = self.session.own_number();
         let after = owned.session;
         let code = owned.code;
-        if code.number() != 0 {
+        if code_number(code) != 0 {
             return Ticked {
                 line: self.moved(t, after, false, false),
                 code,
@@ -182,7 +182,7 @@ impl Line {
         let line = self.moved(t, after, false, true);
         Ticked {
             line: line.with_test(own),
-            code: Code::Good,
+            code: None,
             act: Some(own_act(own, owned.number)),
         }
     }
@@ -195,13 +195,13 @@ impl Line {
         match self.due_at(later(self.now, t)) {
             None => Ticked {
                 line: self.timed(t),
-                code: Code::Good,
+                code: None,
                 act: None,
             },
             Some(due) => match due {
                 Due::Down => Ticked {
                     line: self.drop(t),
-                    code: Code::Good,
+                    code: None,
                     act: Some(Act::Down),
                 },
                 Due::Message(own) => self.numbered(own, t),

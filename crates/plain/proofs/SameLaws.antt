@@ -14,8 +14,8 @@ use Rattle.tables.specs.Dictionary.{sort_of, width_of, entry}
 use Rattle.message.specs.Vet.{good_comp_id}
 use Rattle.session.specs.declared.arrival.Content.{Content}
 use Rattle.session.specs.declared.arrival.Content.TheVariants as content
-use Rattle.session.specs.declared.state.Code.{Code}
-use Rattle.session.specs.declared.state.Code.TheVariants as code
+use Rattle.session.specs.declared.state.Fault.{Fault}
+use Rattle.session.specs.declared.state.Fault.TheVariants as fault
 use Rattle.session.specs.declared.state.Halt.{Halt}
 use Rattle.session.specs.declared.state.Halt.TheVariants as halt
 use Rattle.session.specs.declared.state.Row.{Row}
@@ -36,7 +36,7 @@ use Rattle.sheet.specs.declared.line.Kind.TheVariants.{Logon, Business, GapFill,
 use Rattle.sheet.specs.declared.line.Line.{Line}
 use Rattle.sheet.specs.Print.{line_text, printed}
 use Rattle.sheet.specs.Sheet.{begun, content_of, message_of}
-use Rattle.std.specs.Prelude.{Some}
+use Rattle.std.specs.Prelude.{Some, Option, None}
 use Rattle.plain.specs.declared.Day.{Day}
 use Rattle.plain.specs.declared.Day.TheVariants.{Down, Waiting, Live}
 use Rattle.plain.specs.declared.Told.{Told}
@@ -55,7 +55,7 @@ record Goes (p : Told) (q : Stepped) : Type 0 where
   pub same : Same p q
   pub up : is_waiting p.day ≡ false
 
-goes : {d : Day} {k : Code} {m : Send} {w : Row} {s : Session} → is_waiting d ≡ false → s ≡ session_of d
+goes : {d : Day} {k : Option Fault} {m : Send} {w : Row} {s : Session} → is_waiting d ≡ false → s ≡ session_of d
     → Goes (plain.tells d m w) (answers s k m send.Nothing w)
 goes u e = record { same = record { session = e; row = refl; first = refl; second = refl }; up = u }
 
@@ -228,7 +228,7 @@ same-begun = refl
 pub same : (ls : List Line) → Same (plain.worked_out ls) (quick ls)
 unfolding plain.worked_out quick unmoved
 same ls =
-    same_from (plain.still (Waiting 1 2)) (unmoved begun code.Good) ls (record { session = same-begun; row = refl; first = refl; second = refl }) fit-begun
+    same_from (plain.still (Waiting 1 2)) (unmoved begun None) ls (record { session = same-begun; row = refl; first = refl; second = refl }) fit-begun
 
 -- so each arrival is answered as daysheet's session answers it, where the list has room
 pub each_same : (list : List (List ℕ)) (ls : List Line) (l : Line) → length ls < most_arrivals → length ls < length list

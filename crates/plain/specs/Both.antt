@@ -1,6 +1,5 @@
 -- The two recorders over the same lines (document 02, item 11): the plain one of this crate, and the quick one, which is daysheet's session.
-use Rattle.std.specs.Prelude.{ℕ, ◌+◌, List, [], ◌∷◌, ◌++◌, ◌≡◌, Some}
-use Rattle.session.specs.declared.state.Code.TheVariants.{Good}
+use Rattle.std.specs.Prelude.{ℕ, ◌+◌, List, [], ◌∷◌, ◌++◌, ◌≡◌, Some, None}
 use Rattle.session.specs.declared.state.Send.TheVariants.{Nothing}
 use Rattle.session.specs.declared.state.Session.{Session}
 use Rattle.session.specs.declared.state.State.TheVariants as state
@@ -24,7 +23,7 @@ steps_from t (l ∷ ls) = steps_from (ruled t.session (message_of l)) ls
 
 -- what the last of the lines gives on daysheet's session
 unfoldable pub quick : List Line → Stepped
-quick ls = steps_from (unmoved begun Good) ls
+quick ls = steps_from (unmoved begun None) ls
 
 -- a day of the plain recorder as a session: every line is for us, and M and the count are 0 unless it is Live
 unfoldable pub session_of : Day → Session

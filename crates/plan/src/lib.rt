@@ -76,14 +76,16 @@ fn run_end(list: &[u8], i: usize) -> usize
     list.len()
 }
 
-// A part's New, and the index after the part.
+// A part's New, and the index after the part. New is 0 for business: a pair is two numbers of the lent list, in the plan and in
+// C, and the plan's promise is what these numbers are.
 #[derive(Clone, Copy)]
 struct Reach {
     new: u32,
     next: usize,
 }
 
-// The part whose first number is i + 1.
+// The part whose first number is i + 1. That the list is no longer than `longest_list` is required here and of the three below
+// each by itself: a slice that bears the bound would be one more type, made for two loops.
 fn part_at(list: &[u8], i: usize) -> Reach
     requires { (i < length list.now) × (length list.now ≤ longest_list) }
     ensures i_lt_next { (i < result.next) × (result.next ≤ length list.now) }

@@ -68,6 +68,7 @@ pub(crate) fn hear(rt: &impl Env) -> Option<Asked> {
         own: 1,
         path: None,
     };
+    // No run has so many words: a proved loop ends.
     for i in 1..usize::MAX {
         match rt.arg(i, &mut word) {
             Ok(n) => asked = asked.hears(word.get(..n).unwrap_or(&word), i)?,

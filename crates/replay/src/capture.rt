@@ -6,7 +6,8 @@ use std::io::Read;
 
 pub(crate) const BUFFER: usize = 65536;
 
-// `bytes[from..end]` is read and not looked at yet; whether the input has ended.
+// `bytes[from..end]` is read and not looked at yet; whether the input has ended. An array and no Vec: it is full
+// from the start, and each read lands in the room behind `end`.
 #[derive(Drop)]
 pub(crate) struct Capture {
     bytes: [u8; BUFFER],

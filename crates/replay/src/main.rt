@@ -20,8 +20,8 @@ use message::refusal::{BAD_SUM, SHORT};
 use message::vet::is_comp_id;
 use names::put_name;
 use session::state::{
-    Code, ROW_BUSINESS, ROW_FILLED, ROW_RESET, ROW_SESSION, Row, Send, Session, State, Stepped,
-    last_of,
+    Fault, ROW_BUSINESS, ROW_FILLED, ROW_RESET, ROW_SESSION, Row, Send, Session, State, Stepped,
+    code_number, last_of,
 };
 use spelt::{put_amount, put_shown};
 use std::env::Env;
@@ -146,8 +146,8 @@ fn print_row(out: &mut impl Write, row: Row) -> io::Result<()> {
 }
 
 // What became of a message: a refusal that changed nothing (1 and 4), a stop, or its type, its number and its row.
-fn print_outcome(out: &mut impl Write, s: &[u8], code: Code, row: Row) -> io::Result<()> {
-    match code.number() {
+fn print_outcome(out: &mut impl Write, s: &[u8], code: Option<Fault>, row: Row) -> io::Result<()> {
+    match code_number(code) {
         0 => {
             let header = header_in(s);
             write!(out, " type={} number={}", header.messagetype, header.number)?;
@@ -182,7 +182,7 @@ fn print_step(out: &mut impl Write, at: u64, s: &[u8], stepped: Stepped) -> io::
 // after its last the next.
 fn print_taken(out: &mut impl Write, at: u64, s: &[u8], row: Row) -> io::Result<()> {
     write!(out, "at={at}")?;
-    print_outcome(out, s, Code::Good, row)?;
+    print_outcome(out, s, None, row)?;
     writeln!(out, " next={}", last_of(row) as u64 + 1)?;
     print_business(out, s, row)
 }
@@ -236,7 +236,7 @@ fn step(out: &mut impl Write, view: &mut View, capture: &mut Capture) -> io::Res
     let s = capture.left();
     let stepped = view.session.step(s);
     print_step(out, view.at, s, stepped)?;
-    if stepped.answer.code.number() == SHORT {
+    if code_number(stepped.answer.code) == SHORT {
         view.going = false;
     } else {
         let length = front_length(s);
@@ -290,8 +290,8 @@ fn begin(
     let connected = made.session.connect(b"");
     view.session = connected.session;
     view.named = named;
-    let code = match made.code.number() {
-        0 => connected.code.number(),
+    let code = match code_number(made.code) {
+        0 => code_number(connected.code),
         k => k,
     };
     if code != 0 {

@@ -15,10 +15,10 @@ use Rattle.session.specs.contracts.state.State.{the_type}
 use Rattle.message.specs.Refusal.{number_of}
 use Rattle.session.specs.declared.arrival.Content.{Content}
 use Rattle.session.specs.declared.arrival.Content.TheVariants as content
-use Rattle.session.specs.declared.state.Code.TheVariants as code
+use Rattle.session.specs.declared.state.Fault.TheVariants as fault
 use Rattle.session.specs.Held.{all_zero}
 use Rattle.std.specs.List.{All}
-use Rattle.std.specs.Prelude.{IsTrue, ◌↔◌}
+use Rattle.std.specs.Prelude.{IsTrue, ◌↔◌, Some}
 use Rattle.wire.proofs.TestLaws.{both}
 use borrow.Author.Tests.{eq-eqb, eqb-true}
 use Rattle.session.specs.declared.state.Halt.TheVariants as halt
@@ -115,7 +115,7 @@ not-false false e = absurd (true≢false e)
 
 -- a refusal that stops the session
 pub refused-stops : (s : Session) (k : Refusal) → ((n : ℕ) → k ≡ refusal.Short n → ⊥) → ((n : ℕ) → k ≡ refusal.BadSum n → ⊥)
-    → refused s k ≡ leave s (code.Refused k) s.expected row.Nothing
+    → refused s k ≡ leave s (Some (fault.Refused k)) s.expected row.Nothing
 unfolding refused number_of
 refused-stops s (refusal.Short n) p q = absurd (p n refl)
 refused-stops s refusal.BadStart p q = refl

@@ -10,7 +10,7 @@ use lib.Dec.{eqb, leb, ltb}
 use lib.ListN.{length, get_or}
 use lib.Seq.{take-length}
 use borrow.Author.Tests.{leb-true, ne_eqb, eqb-true}
-use Rattle.std.specs.Prelude.{Result, Ok, Err}
+use Rattle.std.specs.Prelude.{Result, Ok, Err, Option, Some}
 use Rattle.wire.proofs.TestLaws.{either}
 use Rattle.message.specs.declared.frame.Header.{Header}
 use Rattle.message.specs.declared.read.Reading.{Reading}
@@ -23,8 +23,8 @@ use Rattle.message.specs.Refusal.{number_of, besides_of}
 use Rattle.message.proofs.FrameLaws.{framed-by, front_by, own-comp-id, own-map, own_body, framed-more}
 use Rattle.message.proofs.ReadLaws.{WholeAt, read-front, read_more}
 use Rattle.session.specs.declared.arrival.Arrival.TheVariants.{Good}
-use Rattle.session.specs.declared.state.Code.{Code}
-use Rattle.session.specs.declared.state.Code.TheVariants as code
+use Rattle.session.specs.declared.state.Fault.{Fault}
+use Rattle.session.specs.declared.state.Fault.TheVariants as fault
 use Rattle.session.specs.declared.state.Row.{Row}
 use Rattle.session.specs.declared.state.Row.TheVariants as row
 use Rattle.session.specs.declared.state.Session.{Session}
@@ -80,7 +80,7 @@ front-within s = go (front s)
     go (bad-length e) = none refusal.BadLength e (λ h. omega arith)
 
 -- bytes that the reader refuses, but for 1 and 4, leave no session up
-left_down : (s : Session) (k : Code) (e : ℕ) (r : Row) → (leave s k e r).session.state ≡ Down
+left_down : (s : Session) (k : Option Fault) (e : ℕ) (r : Row) → (leave s k e r).session.state ≡ Down
 unfolding leave
 left_down s k e r = either (λ (x : Stepped). x.session.state ≡ Down) (ltb s.own last) (λ t. refl) (λ t. refl)
 
@@ -89,7 +89,7 @@ unfolding refused
 refused-down s r n m =
     let P : Stepped → Type 0 = λ x. x.session.state ≡ Down in
     either P (eqb (number_of r) 1) (λ t. absurd (n (eqb-true (number_of r) 1 t)))
-    (λ t. either P (eqb (number_of r) 4) (λ u. absurd (m (eqb-true (number_of r) 4 u))) (λ u. left_down s (code.Refused r) s.expected row.Nothing))
+    (λ t. either P (eqb (number_of r) 4) (λ u. absurd (m (eqb-true (number_of r) 4 u))) (λ u. left_down s (Some (fault.Refused r)) s.expected row.Nothing))
 
 module _ (s : Session) (left : List ℕ) (up : s.state ≡ Down → ⊥) where
   -- a step on a session that is not Down looks at its bytes

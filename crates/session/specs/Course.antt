@@ -1,7 +1,7 @@
 -- What the laws of the session speak of (document 01, "The session"); `proofs/SessionLaws.antt` has the laws, and `capi/proofs/UpLaws.antt` that of
 -- `Standing`. E is `expected`, M is `ahead`.
-use Rattle.std.specs.Prelude.{ℕ, ◌+◌, ◌≤◌, ◌≡◌, cond, List, eqb}
-use Rattle.session.specs.declared.state.Code.{Code}
+use Rattle.std.specs.Prelude.{ℕ, ◌+◌, ◌≤◌, ◌≡◌, cond, List, eqb, Option}
+use Rattle.session.specs.declared.state.Fault.{Fault}
 use Rattle.session.specs.declared.state.Row.{Row}
 use Rattle.session.specs.declared.state.Row.TheVariants as row
 use Rattle.session.specs.declared.state.Send.TheVariants as send
@@ -52,7 +52,7 @@ pub record Standing (s : Session) : Type 0 where
   pub asked : 1 ≤ s.ahead → (2 ≤ s.ahead) × (s.repeats + least_asked ≤ s.own)
 
 -- the session is as it was, nothing is sent, there is no row: the code is all
-pub record Untouched (s : Session) (k : Code) (r : Stepped) : Type 0 where
+pub record Untouched (s : Session) (k : Option Fault) (r : Stepped) : Type 0 where
   pub session : r.session ≡ s
   pub code : r.answer.code ≡ k
   pub first : r.answer.first ≡ send.Nothing

@@ -1,11 +1,11 @@
 -- A session told in numbers (docs/DECISIONS.md, 27 and 64): which numbers are taken in (document 01, "The session").
-use Rattle.std.specs.Prelude.{ℕ, ◌+◌, Bool, true, false, cond, ◌&&◌, List, [], ◌∷◌, eqb, leb, length, drop}
+use Rattle.std.specs.Prelude.{ℕ, ◌+◌, Bool, true, false, cond, ◌&&◌, List, [], ◌∷◌, eqb, leb, length, drop, Some, None}
 use Rattle.wire.specs.declared.text.Allowed.TheVariants.{Ascii}
 use Rattle.wire.specs.Text.{fixed_part}
 use Rattle.message.specs.Frame.{comp_id_bytes}
 use Rattle.message.specs.Vet.{good_comp_id}
 use Rattle.session.specs.declared.day.Made.{Made}
-use Rattle.session.specs.declared.state.Code.TheVariants.{Good, Halted}
+use Rattle.session.specs.declared.state.Fault.TheVariants.{Halted}
 use Rattle.session.specs.declared.state.Halt.TheVariants.{NotASession}
 use Rattle.session.specs.declared.state.State.{State}
 use Rattle.session.specs.declared.state.State.TheVariants.{Down, Waiting, Live}
@@ -49,5 +49,5 @@ is_held state ours e o m repeats =
 unfoldable pub held : ℕ → List ℕ → ℕ → ℕ → ℕ → ℕ → Made
 held state ours e o m repeats =
     cond (is_held state ours e o m repeats)
-    (record { code = Good; session = record { state = state_at state; ours = ours; expected = e; own = o; ahead = m; repeats = repeats } })
-    (not_made (Halted NotASession))
+    (record { code = None; session = record { state = state_at state; ours = ours; expected = e; own = o; ahead = m; repeats = repeats } })
+    (not_made (Some (Halted NotASession)))

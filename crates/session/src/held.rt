@@ -3,7 +3,7 @@ ghost use Rattle.std.specs.Prelude.{◌≡◌};
 ghost use Rattle.session.specs.Held.{state_number, state_at, all_zero, is_plain_comp_id, least_own, is_ahead, is_held, held};
 
 use crate::day::{Made, not_made};
-use crate::state::{Code, Halt, MOST_REPEATS, Session, State};
+use crate::state::{Fault, Halt, MOST_REPEATS, Session, State};
 use message::frame::COMP_ID_BYTES;
 use wire::text::{Allowed, fixed_part};
 
@@ -112,10 +112,10 @@ impl Session {
         ensures { result ≡ held state ours e o m repeats }
     {
         if !is_held(state, &ours, e, o, m, repeats) {
-            return not_made(Code::Halted(Halt::NotASession));
+            return not_made(Some(Fault::Halted(Halt::NotASession)));
         }
         Made {
-            code: Code::Good,
+            code: None,
             session: Session {
                 state: state_at(state),
                 ours,

@@ -20,6 +20,7 @@ pub enum Kind {
     Reset,
 }
 
+// What a line says. `dup` is a number, 0 or 1: the plain recorder's list is lent by its caller and may hold any.
 #[derive(Clone, Copy, PartialEq, Eq, Debug)]
 pub struct Line {
     pub kind: Kind,

@@ -9,7 +9,8 @@ use session::state::{Row, Send, Stepped, first_of, last_of};
 use spelt::put_number;
 use wire::laying::{NotLaid, put_bytes};
 
-// The bytes w behind the first `at` of d; where the next begin.
+// The bytes w behind the first `at` of d; where the next begin. The buffer is lent and the place is a number beside it, here and
+// below: a struct that holds both would be one more contract, and each part would have to say both of it all the same.
 fn put(d: &mut [u8], at: usize, w: &[u8]) -> usize
     requires { at + length w.now ≤ length d.old }
     ensures { (result ≡ at + length w.now) × (take result d.new ≡ take at d.old ++ w.now) }

@@ -69,7 +69,8 @@ pub fn next_count(k: u64) -> u64
     if k < 18446744073709551615 { k + 1 } else { k }
 }
 
-// Takes whole lines from s, line number `count` first, and prints them at the front of d.
+// Takes whole lines from s, line number `count` first, and prints them at the front of d. A loop and no chain: each turn's step
+// is the line's own length, and what it printed.
 pub fn take_lines(session: Session, count: u64, s: &[u8], d: &mut [u8]) -> Taken
     ensures value { result ≡ (sheet_of (length d.old) session count s.now).taken }
     ensures d_after { d.new ≡ at_front (sheet_of (length d.old) session count s.now).text d.old }

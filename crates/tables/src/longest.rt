@@ -7,7 +7,8 @@ use crate::table::{
     LOOKUP_RESPONSE, REJECT, RESEND_REQUEST, SEQUENCE_RESET, TEST_REQUEST,
 };
 
-// The bytes of the longest message of this type, frame and all; 0 where the type has no table.
+// The bytes of the longest message of this type, frame and all; 0 where the type has no table. A number and no Option: the
+// promise gives 0 to such a type, for which a buffer needs no bytes.
 #[tactic(auto, unfolding(crate::specs::Longest::longest_lengths, crate::specs::Longest::longest_length))]
 pub fn longest_of(messagetype: u8) -> usize
     ensures { result ≡ longest_length messagetype }

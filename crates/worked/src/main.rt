@@ -18,7 +18,7 @@ use message::ask::{ask_number, ask_number_of, ask_text, text};
 use message::read::{Reading, body, comp_id, map, read};
 use message::refusal::Refusal;
 use session::day::{Connected, Made};
-use session::state::{Row, Send, Session, State, Stepped};
+use session::state::{Row, Send, Session, State, Stepped, code_number};
 use spelt::put_shown;
 use std::io;
 use std::io::Read;
@@ -79,7 +79,7 @@ fn print_reading(rt: &impl Print, s: &[u8]) -> io::Result<()> {
     }
 }
 
-// A text's characters, each as a terminal shows it safely.
+// A text's characters, each as a terminal shows it safely. (Replay has these few lines for a buffered writer.)
 fn print_shown(rt: &impl Print, text: &[u8]) -> io::Result<()> {
     for b in text {
         let mut shown = [0u8; 4];
@@ -154,7 +154,8 @@ fn cut(words: &[u8]) -> (&[u8], &[u8]) {
     }
 }
 
-// A number of at most ten decimal digits.
+// A number of at most ten decimal digits. It is read up to what is no digit, and never refused: bench, replay and sheet refuse what
+// is no number, each in its own way.
 fn number(word: &[u8]) -> u64 {
     let mut n: u64 = 0;
     for b in word {
@@ -208,7 +209,7 @@ fn print_session(rt: &impl Print, s: Session) -> io::Result<()> {
 }
 
 fn made(rt: &impl Print, made: Made) -> io::Result<Session> {
-    print!(rt; "code {}: ", made.code.number())?;
+    print!(rt; "code {}: ", code_number(made.code))?;
     print_session(rt, made.session)?;
     Ok(made.session)
 }
@@ -217,7 +218,7 @@ fn connected(rt: &impl Print, connected: Connected) -> io::Result<Session> {
     let code = connected.code;
     print!(rt;
         "code {} logon {} {}: ",
-        code.number(),
+        code_number(code),
         connected.number,
         connected.next
     )?;
@@ -227,7 +228,7 @@ fn connected(rt: &impl Print, connected: Connected) -> io::Result<Session> {
 
 fn stepped(rt: &impl Print, stepped: Stepped) -> io::Result<Session> {
     let answer = stepped.answer;
-    print!(rt; "code {} send ", answer.code.number())?;
+    print!(rt; "code {} send ", code_number(answer.code))?;
     print_send(rt, answer.first)?;
     rt.print(", ")?;
     print_send(rt, answer.second)?;

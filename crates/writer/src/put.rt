@@ -21,6 +21,7 @@ use message::frame::{
     COMP_ID_AT, COMP_ID_BYTES, Header, LENGTH_AT, MAP_AT, NUMBER_AT, POSS_DUP_AT, POSS_RESEND_AT,
     START_AT, STX, SUM_BYTES, TYPE_AT,
 };
+use wire::laying::put_bytes;
 use wire::number::{put_u8, put_u16, put_u32, put_u64, read_eight};
 use wire::text::{Allowed, copy_fixed, put_fixed};
 
@@ -79,17 +80,6 @@ fn put_values(d: &mut [u8], n: u16, header: Header)
     let _ = put_u8(&mut d[POSS_RESEND_AT..], header.possresend);
 }
 
-// The map, eight bytes at a time.
-fn put_map(d: &mut [u8], map: &[u8])
-    requires { (map_bytes ≤ length d.old) × (length map.now ≡ map_bytes) }
-    ensures { d.new ≡ laid map.now d.old }
-{
-    let _ = put_u64(d, read_eight(map));
-    let _ = put_u64(&mut d[8..], read_eight(&map[8..]));
-    let _ = put_u64(&mut d[16..], read_eight(&map[16..]));
-    let _ = put_u64(&mut d[24..], read_eight(&map[24..]));
-}
-
 // The bytes before the fields of a message of n bytes.
 pub(crate) fn put_head(d: &mut [u8], n: u16, header: Header, comp: &[u8], map: &[u8])
     requires { (body_at ≤ length d.old) × (takes Ascii comp_id_bytes comp.now ≡ true) × (length map.now ≡ map_bytes) }
@@ -97,7 +87,7 @@ pub(crate) fn put_head(d: &mut [u8], n: u16, header: Header, comp: &[u8], map: &
 {
     put_values(d, n, header);
     let _ = put_fixed(&mut d[COMP_ID_AT..], Allowed::Ascii, COMP_ID_BYTES, comp);
-    put_map(&mut d[MAP_AT..], map);
+    let _ = put_bytes(&mut d[MAP_AT..], map);
 }
 
 // The checksum over a message's bytes before it, behind them.

@@ -2,8 +2,8 @@ use Prim.Native.Nat.{◌/◌}
 use mathlib.Core.Path.{sym, ap, subst, ◌∙◌}
 use native.Mathlib.Omega.{arith}
 use lib.ListN.{length, length-drop}
+use Rattle.std.specs.Prelude.{None}
 use Rattle.wire.proofs.TestLaws.{rest_of}
-use Rattle.session.specs.declared.state.Code.TheVariants.{Good}
 use Rattle.calls.specs.declared.SoFar.{SoFar}
 use Rattle.calls.specs.Steps.{reports}
 use Rattle.calls.proofs.GoingLaws.{Gone, going_start, same_size, front-in, row-five, going-quick, turn-bounds, turn-same, going_next, going-last}
@@ -109,6 +109,6 @@ loop-rest-preserved c =
 
 pub returns-in-Some : goal.returns-in-Some
 returns-in-Some c =
-    let r = c.report.ensures ∙ ap (λ (z : SoFar). reports z.session Good z.used (z.rows / 5) (z.sends / 4) z.heard c.in-Some.ended) c.add-in-loop-rest.ensures in
+    let r = c.report.ensures ∙ ap (λ (z : SoFar). reports z.session None z.used (z.rows / 5) (z.sends / 4) z.heard c.in-Some.ended) c.add-in-loop-rest.ensures in
     let g = going-last c.loop-rest.invariant _ (rest_of c.args.s.now c.loop-rest.so_far.used) c.turn-turned.result c.turn-turned.new.rows c.turn-turned.new.sends c.turn-turned.ensures.0 c.turn-turned.ensures.1 c.turn-turned.ensures.2 _ c.in-Some.is c.report.result r in
     (g.0, g.1, g.2)

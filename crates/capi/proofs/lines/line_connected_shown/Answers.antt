@@ -4,4 +4,4 @@ use Rattle.capi.proofs.lines.line_connected_shown.Goals as goal
 
 pub returns : goal.returns
 unfolding shown_line_connected
-returns c = simp (c.besides.ensures, c.line_shown.ensures, c.number.ensures)
+returns c = simp (c.code_besides.ensures, c.line_shown.ensures, c.code_number.ensures)

@@ -9,7 +9,7 @@ returns-in-Short c = search rules
 
 pub returns-in-Down : goal.returns-in-Down
 unfolding ended_in
-returns-in-Down c = simp (c.besides.ensures, c.in-Down.is)
+returns-in-Down c = simp (c.code_besides.ensures, c.in-Down.is)
 
 pub returns-in-NoSlot : goal.returns-in-NoSlot
 unfolding ended_in

@@ -9,7 +9,7 @@ returns-in-Short c = search rules
 
 pub returns-in-Down : goal.returns-in-Down
 unfolding ended_in
-returns-in-Down c = simp (c.number.ensures, c.in-Down.is)
+returns-in-Down c = simp (c.code_number.ensures, c.in-Down.is)
 
 pub returns-in-NoSlot : goal.returns-in-NoSlot
 unfolding ended_in

@@ -4,4 +4,4 @@ use Rattle.capi.proofs.sessions.made_shown.Goals as goal
 
 pub returns : goal.returns
 unfolding shown_made
-returns c = simp (c.made.ensures, c.session_shown.ensures, c.number.ensures)
+returns c = simp (c.made.ensures, c.session_shown.ensures, c.code_number.ensures)

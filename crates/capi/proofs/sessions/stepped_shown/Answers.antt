@@ -4,4 +4,4 @@ use Rattle.capi.proofs.sessions.stepped_shown.Goals as goal
 
 pub returns : goal.returns
 unfolding shown_stepped
-returns c = simp (c.besides.ensures, c.row_shown.ensures, c.send_shown-2.ensures, c.send_shown.ensures, c.session_shown.ensures, c.number.ensures)
+returns c = simp (c.code_besides.ensures, c.row_shown.ensures, c.send_shown-2.ensures, c.send_shown.ensures, c.session_shown.ensures, c.code_number.ensures)

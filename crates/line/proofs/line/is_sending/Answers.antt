@@ -4,4 +4,4 @@ use Rattle.line.proofs.line.is_sending.Goals as goal
 
 pub returns : goal.returns
 unfolding is_sending
-returns c = simp c.number.ensures
+returns c = simp c.code_number.ensures

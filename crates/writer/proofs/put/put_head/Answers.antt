@@ -5,4 +5,4 @@ use Rattle.writer.proofs.put.put_head.Goals as goal
 pub returns : goal.returns
 returns c =
     head-laid c.args.n c.args.header c.args.comp.now c.args.map.now c.requires.1 c.requires.2 c.args.d.now _ _ _ c.requires.0
-    c.put_values.ensures c.put_fixed.ensures.1 c.put_map.ensures
+    c.put_values.ensures c.put_fixed.ensures.1 c.put_bytes.ensures.1

@@ -23,6 +23,6 @@ returns c =
     let x =
     logon-sent a.number a.password.now a.next a.comp.now a.d.now
     (password-taken _ _ c.sort_of.ensures c.width.ensures a.password.now _ c.takes_text.ensures ∙ c.if-not-takes_text.false) c.write.result c.write.new.d
-    (sends (logon a.number a.password.now a.next) a.comp.now a.d.now _ _ _ c.header_of.ensures c.map_of_two-map.ensures c.logon_body-body.ensures _ _ c.write.ensures)
+    (sends (logon a.number a.password.now a.next) a.comp.now a.d.now _ _ _ c.header_of.ensures c.map_of-map.ensures c.logon_body-body.ensures _ _ c.write.ensures)
     in
     record { value = x.0; d_after = x.1 }

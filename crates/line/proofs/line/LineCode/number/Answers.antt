@@ -4,7 +4,7 @@ use Rattle.line.proofs.line.LineCode.number.Goals as goal
 
 pub returns-in-Day : goal.returns-in-Day
 unfolding line_number
-returns-in-Day c = simp (c.number.ensures, c.in-Day.is)
+returns-in-Day c = simp (c.code_number.ensures, c.in-Day.is)
 
 pub returns-in-BadInterval : goal.returns-in-BadInterval
 unfolding line_number

@@ -1,10 +1,6 @@
--- `session::state::Code::number` meets its contract.
+-- `session::state::Fault::number` meets its contract.
 use Rattle.session.specs.State.{code_number}
-use Rattle.session.proofs.state.Code.number.Goals as goal
-
-pub returns-in-Good : goal.returns-in-Good
-unfolding code_number
-returns-in-Good c = simp c.in-Good.is
+use Rattle.session.proofs.state.Fault.number.Goals as goal
 
 pub returns-in-Refused : goal.returns-in-Refused
 unfolding code_number

@@ -1,10 +1,6 @@
--- `session::state::Code::besides` meets its contract.
+-- `session::state::Fault::besides` meets its contract.
 use Rattle.session.specs.State.{code_besides}
-use Rattle.session.proofs.state.Code.besides.Goals as goal
-
-pub returns-in-Good : goal.returns-in-Good
-unfolding code_besides
-returns-in-Good c = simp c.in-Good.is
+use Rattle.session.proofs.state.Fault.besides.Goals as goal
 
 pub returns-in-Refused : goal.returns-in-Refused
 unfolding code_besides
