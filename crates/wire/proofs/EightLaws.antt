@@ -1,5 +1,6 @@
 -- Laws of eight bytes at once.
-use Rattle.std.proofs.Common.{◌≡◌, ℕ, zero, suc, ◌+◌, ◌*◌, ◌<◌, ◌≤◌, List, length, get_or, take, drop, refl, ap, ◌∙◌, arith, drop-cons}
+use Rattle.std.proofs.Common.{◌≡◌, ℕ, zero, suc, ◌+◌, ◌*◌, ◌<◌, ◌≤◌, List, length, get_or, take, drop, take_all, sym, w64, refl, ap, ◌∙◌, arith, drop-cons}
+use Rattle.std.specs.Int.{from_le_bytes}
 use Rattle.wire.specs.Number.{number}
 
 -- n bytes from place i on as a number, each looked at in its place
@@ -15,13 +16,12 @@ digits-take (suc n) i s h =
     ap (λ (t : List ℕ). number (take (suc n) t)) (drop-cons s i 0 l)
     ∙ ap (λ (x : ℕ). get_or s i 0 + x * 256) (digits-take n (suc i) s (omega arith))
 
-in_halves : (a b c d e f g h : ℕ) → a + (b + (c + (d + (e + (f + (g + (h + 0 * 256) * 256) * 256) * 256) * 256) * 256) * 256) * 256
-    ≡ (a + b * 256) + (c + d * 256) * 65536 + ((e + f * 256) + (g + h * 256) * 65536) * 4294967296
-in_halves a b c d e f g h = omega arith
+in_places : (a b c d e f g h : ℕ)
+    → a + b * 256 + c * 65536 + d * 16777216 + e * 4294967296 + f * 1099511627776 + g * 281474976710656 + h * 72057594037927936
+    ≡ a + (b + (c + (d + (e + (f + (g + (h + 0 * 256) * 256) * 256) * 256) * 256) * 256) * 256) * 256
+in_places a b c d e f g h = omega arith
 
-pub number-eight : (s : List ℕ) → 8 ≤ length s → number (take 8 s)
-    ≡ (get_or s 0 0 + get_or s 1 0 * 256) + (get_or s 2 0 + get_or s 3 0 * 256) * 65536
-    + ((get_or s 4 0 + get_or s 5 0 * 256) + (get_or s 6 0 + get_or s 7 0 * 256) * 65536) * 4294967296
+pub number-eight : (s : List ℕ) → length s ≡ 8 → from_le_bytes w64 s ≡ number s
 number-eight s h =
-    digits-take 8 0 s h
-    ∙ in_halves (get_or s 0 0) (get_or s 1 0) (get_or s 2 0) (get_or s 3 0) (get_or s 4 0) (get_or s 5 0) (get_or s 6 0) (get_or s 7 0)
+    in_places (get_or s 0 0) (get_or s 1 0) (get_or s 2 0) (get_or s 3 0) (get_or s 4 0) (get_or s 5 0) (get_or s 6 0) (get_or s 7 0)
+    ∙ sym (digits-take 8 0 s (omega arith)) ∙ ap number (take_all 8 s (omega arith))

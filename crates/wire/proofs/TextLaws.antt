@@ -1,10 +1,12 @@
 -- Laws of texts: what the readers' and the writers' loops ask; that a written text is read back; that a reader's answer depends on the field's own
 -- bytes alone; and that the writer takes the characters of every text that a reader calls good.
-use Rattle.std.proofs.Common.{◌≡◌, ℕ, zero, suc, ◌+◌, ◌-◌, ◌^◌, ◌<◌, ◌≤◌, Bool, true, false, cond, not, ◌&&◌, ◌||◌, eqb, ltb, leb, List, [], ◌∷◌, ◌++◌, length, get_or, take, drop, set, replicate, sym, refl, ap, ◌∙◌, subst, ap₂, append_assoc, append-nil, add-one, arith, length-append, length-drop, drop_of_length-le, length-take-le, take_all, drop-cons, take-take, drop-drop, take_at, take-add, drop_at, ltb-true, le-ltb, lt-ltb, ne_eqb, eqb-true, le-leb, leb-false, leb-true, Option, Some, None, Result, Err}
+use Rattle.std.proofs.Common.{◌≡◌, ℕ, zero, suc, ◌+◌, ◌-◌, ◌^◌, ◌<◌, ◌≤◌, Bool, true, false, cond, not, ◌&&◌, ◌||◌, eqb, ltb, leb, List, [], ◌∷◌, ◌++◌, length, get_or, take, drop, set, replicate, sym, refl, ap, ◌∙◌, subst, ap₂, append_assoc, append-nil, zero-add, arith, length-append, length-drop, drop_of_length-le, length-take-le, take_all, drop-cons, take-take, drop-drop, take_at, take-add, drop_at, ltb-true, le-ltb, lt-ltb, ne_eqb, eqb-true, le-leb, leb-false, leb-true, Option, Some, None, Result, Err}
 use lib.Dec.{leb-suc-suc, eqb-suc-suc, eqb-zero-suc}
 use lib.ListN.{length-replicate}
 use lib.Seq.{set_at, append_snoc}
 use borrow.Author.Tests.{lt-leb, eqb-false}
+use Rattle.std.specs.List.{position_from}
+use Rattle.std.specs.Option.{unwrap_or}
 use Rattle.wire.specs.declared.laying.NotLaid.{NotLaid}
 use Rattle.wire.specs.declared.laying.NotLaid.TheVariants.{BadText}
 use Rattle.wire.specs.declared.text.Allowed.{Allowed}
@@ -188,28 +190,22 @@ module _ (allowed : Allowed) where
   count-goes (suc n) (b ∷ s) e =
       goes-cons (is_character allowed b) (characters allowed (take n s)) (characters allowed s) (characters allowed (drop n s)) n (count-goes n s) e
 
-  -- a loop over the bytes that has counted i characters: it counts one more, stops at a byte that is none, or has seen all
-  module _ (s : List ℕ) (i : ℕ) (h : i + characters allowed (drop i s) ≡ characters allowed s) where
-    module _ (l : i < length s) where
-      counts-here : characters allowed (drop i s) ≡ cond (is_character allowed (get_or s i 0)) (suc (characters allowed (drop (suc i) s))) 0
-      unfolding characters
-      counts-here = ap (characters allowed) (drop-cons s i 0 l)
+  -- they end at the first byte that is none, or with all: one byte in front, by the test on it (t), and where the first behind it stands (r)
+  place-cons : (t : Bool) (i n k : ℕ) (r : Option ℕ) → unwrap_or r (i + 1 + n) ≡ i + 1 + k → unwrap_or (cond (not t) (Some i) r) (i + suc n) ≡ i + cond t (suc k) 0
+  place-cons true i n k r h =
+      let e : i + suc n ≡ i + 1 + n = omega arith in
+      let f : i + 1 + k ≡ i + suc k = omega arith in
+      ap (unwrap_or r) e ∙ h ∙ f
+  place-cons false i n k r h = omega arith
 
-      pub count_next : is_character allowed (get_or s i 0) ≡ true → (i + 1) + characters allowed (drop (i + 1) s) ≡ characters allowed s
-      count_next e =
-          let f : characters allowed (drop i s) ≡ suc (characters allowed (drop (suc i) s)) = counts-here ∙ rw e in
-          rw add-one (omega arith)
+  place-from : (i : ℕ) (s : List ℕ) → unwrap_or (position_from (λ b. not (is_character allowed b)) i s) (i + length s) ≡ i + characters allowed s
+  unfolding characters
+  place-from i [] = refl
+  place-from i (b ∷ s) =
+      place-cons (is_character allowed b) i (length s) (characters allowed s) (position_from (λ c. not (is_character allowed c)) (i + 1) s) (place-from (i + 1) s)
 
-      pub count-ends : is_character allowed (get_or s i 0) ≡ false → i ≡ characters allowed s
-      count-ends e =
-          let f : characters allowed (drop i s) ≡ 0 = counts-here ∙ rw e in
-          omega arith
-
-    pub count-done : length s ≤ i → i ≡ characters allowed s
-    unfolding characters
-    count-done l =
-        let f : characters allowed (drop i s) ≡ 0 = ap (characters allowed) (drop_of_length-le s l) in
-        omega arith
+  pub count-place : (s : List ℕ) → unwrap_or (position_from (λ b. not (is_character allowed b)) 0 s) (length s) ≡ characters allowed s
+  count-place s = simp zero-add at (place-from 0 s)
 
   -- all are characters where as many are counted
   pub all-counted : (s : List ℕ) → eqb (characters allowed s) (length s) ≡ all_characters allowed s

@@ -71,13 +71,11 @@ pub fn characters_in(allowed: Allowed, s: &[u8]) -> usize
         }
         i += 8;
     }
-    while i < s.len() {
-        if !is_character(allowed, s[i]) {
-            return i;
-        }
-        i += 1;
-    }
-    i
+    let rest = &s[i..];
+    i + rest
+        .iter()
+        .position(|b| !is_character(allowed, *b))
+        .unwrap_or(rest.len())
 }
 
 // Where a text's null stands, if only characters stand before it.
@@ -172,10 +170,8 @@ pub fn takes_text(allowed: Allowed, width: usize, t: &[u8]) -> bool
 fn clear(d: &mut [u8])
     ensures { d.new ≡ replicate (length d.old) 0 }
 {
-    let mut i = 0;
-    while i < d.len() {
-        d[i] = 0;
-        i += 1;
+    for byte in d.iter_mut() {
+        *byte = 0;
     }
 }
 

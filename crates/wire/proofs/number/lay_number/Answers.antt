@@ -1,23 +1,21 @@
-use Rattle.std.proofs.Common.{◌%◌, refl, ◌∙◌, arith, length-set, rules}
+use Rattle.std.proofs.Common.{◌≡◌, ℕ, List, ◌++◌, length, take, drop, ap, ◌∙◌, arith, length-take-le}
 use native.Mathlib.Nat.{sub-zero}
-use Rattle.wire.proofs.NumberLaws.{lay-behind, lay-next, lay_done}
+use Rattle.wire.proofs.NumberLaws.{lay-next, lay-whole}
 use Rattle.wire.proofs.number.lay_number.Goals as goal
 
-pub loop-k-init : goal.loop-k-init
-loop-k-init c = (search rules, refl, refl, simp sub-zero)
+pub loop-byte-init : goal.loop-byte-init
+loop-byte-init c = simp sub-zero
 
-pub loop-k-preserved : goal.loop-k-preserved
-loop-k-preserved c =
-    let l = c.loop-k in
-    let a = c.args in (
-      omega arith,
-      simp length-set (omega arith),
-      lay-behind l.d a.d.now l.k (l.v % 256) l.invariant.2,
-      lay-next l.d a.w l.k l.v (omega arith) (omega arith) ∙ l.invariant.3,
-    )
+pub loop-byte-preserved : goal.loop-byte-preserved
+loop-byte-preserved c =
+    let l = c.loop-byte in
+    let a = c.args in
+    let e : length (take a.w a.d.now) ≡ a.w = length-take-le a.w a.d.now c.requires in
+    lay-next l.byte-items a.w l.byte-index l.v (omega arith) (omega arith) ∙ l.invariant
 
 pub returns : goal.returns
 returns c =
-    let l = c.loop-k in
+    let l = c.loop-byte in
     let a = c.args in
-    lay_done l.d a.d.now a.w l.k a.n l.v (omega arith) l.invariant.2 l.invariant.3
+    let e : length (take a.w a.d.now) ≡ a.w = length-take-le a.w a.d.now c.requires in
+    ap (λ (x : List ℕ). x ++ drop a.w a.d.now) (lay-whole l.byte-items a.w l.byte-index a.n l.v (omega arith) (omega arith) l.invariant)

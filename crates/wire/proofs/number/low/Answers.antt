@@ -1,15 +1,12 @@
-use Rattle.std.proofs.Common.{◌≡◌, ◌-◌, min, length, take, sym, arith, length-take}
+use Rattle.std.proofs.Common.{◌≡◌, ◌-◌, take, sym, arith, length-take}
 use Rattle.wire.specs.Number.{Bytes, number}
 use Rattle.wire.proofs.NumberLaws.{number-take, read_none, read_down, read-room}
 use Rattle.wire.proofs.number.low.Goals as goal
-use Rattle.wire.proofs.number.low.Goals.{then-s-w, else-s-w}
 
 pub loop-k-init : goal.loop-k-init
 loop-k-init c =
     let a = c.args in
-    let k = c.if-s-w.k in
-    let h : k ≡ min a.w (length a.s.now) = elim c.if-s-w.branch [ then-s-w w ↦ omega arith | else-s-w w ↦ omega arith ] in
-    (omega arith, omega arith, sym (read_none a.s.now a.w k (simp length-take (omega arith))))
+    (omega arith, omega arith, sym (read_none a.s.now a.w c.min-k.result (simp length-take (omega arith))))
 
 pub overflow_mul-v : goal.overflow_mul-v
 overflow_mul-v c =

@@ -5,6 +5,3 @@ use Rattle.wire.proofs.number.low.Given as goal
 
 abbrev pub invariant-loop-k : goal.invariant-loop-k
 invariant-loop-k l = (l.k ≤ l.w) × (l.k ≤ length l.s) × (l.v ≡ number (drop l.k (take l.w l.s)))
-
-abbrev pub decreases-loop-k : goal.decreases-loop-k
-decreases-loop-k l = l.k

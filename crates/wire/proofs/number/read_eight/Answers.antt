@@ -1,12 +1,10 @@
--- `wire::number::read_eight` meets its contract: eight bytes in halves.
-use Rattle.std.proofs.Common.{ℕ, ◌+◌, ◌*◌, ◌≤◌, length, sym, ◌∙◌, ap₂, arith}
+-- `wire::number::read_eight` meets its contract: the library's number of eight bytes.
+use Rattle.std.proofs.Common.{ap, ◌∙◌, length, length-take-le}
+use Rattle.wire.specs.Number.{number}
 use Rattle.wire.proofs.EightLaws.{number-eight}
 use Rattle.wire.proofs.number.read_eight.Goals as goal
 
-pub returns : goal.returns
-returns c =
-    let a = c.args in
-    let h : 8 ≤ length a.s.now = omega arith in
-    ap₂ (λ (x y : ℕ). x + y * 4294967296) (ap₂ (λ (x y : ℕ). x + y * 65536) c.pair.ensures.0 c.pair-2.ensures.0)
-    (ap₂ (λ (x y : ℕ). x + y * 65536) c.pair-3.ensures.0 c.pair-4.ensures.0)
-    ∙ sym (number-eight a.s.now h)
+pub returns-in-Some : goal.returns-in-Some
+returns-in-Some c =
+    let f = c.in-Some.ensures.cases in
+    c.from_le_bytes.ensures ∙ number-eight c.in-Some.bytes.now (ap length f.same ∙ length-take-le 8 c.args.s.now f.enough) ∙ ap number f.same

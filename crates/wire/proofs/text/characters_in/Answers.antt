@@ -1,8 +1,13 @@
-use Rattle.std.proofs.Common.{sym, ◌∙◌, zero-add, arith, length-drop, rules}
+use Rattle.std.specs.Option.{unwrap_or}
+use Rattle.std.proofs.lemmas.Iterator.{YieldsList-from_slice}
+use Rattle.std.proofs.lemmas.Iterator.Adapters.{position_from-zero}
+use Rattle.std.proofs.lemmas.Iterator.Search.{position_from_yields_List}
+use Rattle.wire.specs.Text.{is_character, characters}
+use Rattle.std.proofs.Common.{ℕ, ◌+◌, ◌-◌, Option, not, length, take, drop, ap, ◌∙◌, zero-add, arith, length-drop, rules}
 use lib.Count.{trailing_le}
 use Rattle.wire.proofs.TestLaws.{rest_of}
 use Rattle.wire.proofs.MarkLaws.{eight-more, stops-within}
-use Rattle.wire.proofs.TextLaws.{count_next, count-ends, count-done}
+use Rattle.wire.proofs.TextLaws.{count-place}
 use Rattle.wire.proofs.text.characters_in.Goals as goal
 
 pub loop-i-init : goal.loop-i-init
@@ -27,21 +32,12 @@ loop-i-preserved c =
     let o = c.outside-marked in
     (omega arith, eight-more _ c.args.s.now c.loop-i.i o.result c.loop-i.invariant.1 o.ensures c.if-marked-ne0.false)
 
-pub loop-i-2-init : goal.loop-i-2-init
-loop-i-2-init c = c.loop-i.invariant
-
-pub returns-then-not-is_character : goal.returns-then-not-is_character
-returns-then-not-is_character c =
-    count-ends _ c.args.s.now c.loop-i-2.i c.loop-i-2.invariant.1 (omega arith)
-    (sym c.is_character.ensures ∙ c.if-not-is_character.true)
-
-pub loop-i-2-preserved : goal.loop-i-2-preserved
-loop-i-2-preserved c = (
-  omega arith,
-  count_next _ c.args.s.now c.loop-i-2.i c.loop-i-2.invariant.1 (omega arith)
-      (sym c.is_character.ensures ∙ c.if-not-is_character.false),
-)
-
 pub returns : goal.returns
 returns c =
-    count-done _ c.args.s.now c.loop-i-2.i c.loop-i-2.invariant.1 (omega arith)
+    let a = c.args in
+    let s = a.s.now in
+    let i = c.loop-i.i in
+    let rest = take (length s - i) (drop i s) in
+    let p = position_from_yields_List (λ b. not (is_character a.allowed b)) _ _ _ c.position.ensures.ran (YieldsList-from_slice rest cc) (λ x b q k. search rules) in
+    ap (λ (n : ℕ). i + n) (c.unwrap_or.ensures ∙ ap (λ (r : Option ℕ). unwrap_or r (length rest)) (p ∙ position_from-zero _ rest)
+    ∙ count-place a.allowed rest ∙ ap (characters a.allowed) (rest_of s i)) ∙ c.loop-i.invariant.1
