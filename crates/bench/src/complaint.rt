@@ -1,4 +1,6 @@
 // What the bench tells on standard error in place of an answer.
+use message::refusal::Refusal;
+use plan::NotPlanned;
 use std::alloc::AllocError;
 use std::{fmt, io};
 
@@ -6,7 +8,7 @@ use std::{fmt, io};
 // than the first.
 #[derive(Clone, Copy)]
 pub(crate) enum Fault {
-    Refused(u32),
+    Refused(Refusal),
     Bears(u32),
     OtherCompId,
 }
@@ -14,7 +16,7 @@ pub(crate) enum Fault {
 impl fmt::Display for Fault {
     fn fmt<W: fmt::Write>(&self, f: &mut fmt::Formatter<W>) -> fmt::Result {
         match *self {
-            Fault::Refused(r) => write!(f, "is refused {r}"),
+            Fault::Refused(r) => write!(f, "is refused {}", r.number()),
             Fault::Bears(n) => write!(f, "bears number {n}"),
             Fault::OtherCompId => f.write_str("has another Comp ID than the first"),
         }
@@ -31,9 +33,9 @@ pub(crate) enum Complaint {
     ListTooLong,
     TooMany,
     Message(usize, Fault),
-    Refused(u32),
+    Refused(NotPlanned),
     Missing(u32),
-    Unwritten(u32),
+    Unwritten(Refusal),
     Closed,
 }
 
@@ -54,11 +56,13 @@ impl fmt::Display for Complaint {
                 "the list is too long: it has at most 65536 messages",
             ),
             Complaint::Message(k, fault) => write!(f, "message {k} of the list {fault}"),
-            Complaint::Refused(r) => write!(f, "refused {r}"),
+            Complaint::Refused(r) => write!(f, "refused {}", r.number()),
             Complaint::Missing(n) => write!(f, "the list does not have number {n}"),
-            Complaint::Unwritten(r) => {
-                write!(f, "a message of the plan cannot be written: refused {r}")
-            }
+            Complaint::Unwritten(r) => write!(
+                f,
+                "a message of the plan cannot be written: refused {}",
+                r.number()
+            ),
             Complaint::Closed => f.write_str("standard output cannot be written"),
         }
     }

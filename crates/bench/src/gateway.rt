@@ -36,7 +36,7 @@ fn look(list: &[u8], s: &[u8], n: usize) -> Result<(bool, usize), Fault> {
             }
             Ok((is_business(header.messagetype), length))
         }
-        Err(refusal) => Err(Fault::Refused(refusal.number())),
+        Err(refusal) => Err(Fault::Refused(refusal)),
     }
 }
 
@@ -85,7 +85,7 @@ fn send_part(rt: &impl Print, s: &[u8], first: u32, new: u32) -> Result<(), Comp
             Ok(()) => Ok(()),
             Err(_) => Err(Complaint::Closed),
         },
-        Err(refusal) => Err(Complaint::Unwritten(refusal.number())),
+        Err(refusal) => Err(Complaint::Unwritten(refusal)),
     }
 }
 
@@ -120,7 +120,7 @@ fn send_plan(rt: &impl Print, list: &[u8], marks: &[u8], range: Range) -> Result
     let mut room = [0u32; ROOM];
     match planned(marks, range, &mut room) {
         Ok(pairs) => send_parts(rt, list, pairs),
-        Err(refused) => Err(Complaint::Refused(refused.number())),
+        Err(refused) => Err(Complaint::Refused(refused)),
     }
 }
 

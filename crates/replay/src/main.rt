@@ -16,7 +16,7 @@ use crate::capture::{BUFFER, Capture};
 use calls::{A_ROW, A_SEND, Done, steps};
 use message::frame::{COMP_ID_BYTES, check_frame, comp_id_in, front_length, header_in};
 use message::list::{A_FIELD, DECIMAL, Listed, NUMBER, TEXT, list_fields};
-use message::refusal::{BAD_SUM, SHORT};
+use message::refusal::Refusal;
 use message::vet::is_comp_id;
 use names::put_name;
 use session::state::{
@@ -56,6 +56,7 @@ fn put_front(out: &mut impl Write, text: &[u8], n: usize) -> io::Result<()> {
     out.write_all(text.get(..n).unwrap_or(text))
 }
 
+// Here and in `print_amount` the text goes to a buffered writer; layoutsheet prints a name by itself.
 fn print_name(out: &mut impl Write, field: Field) -> io::Result<()> {
     let mut name = [0u8; 64];
     let laid = put_name(&mut name, field);
@@ -68,7 +69,8 @@ fn print_amount(out: &mut impl Write, z: i64) -> io::Result<()> {
     put_front(out, &amount, laid.unwrap_or(0))
 }
 
-// The characters of a text that is allowed accents, each as a terminal shows it safely.
+// The characters of a text that is allowed accents, each as a terminal shows it safely. (Worked has these few lines for another
+// sink.)
 fn print_accented(out: &mut impl Write, text: &[u8]) -> io::Result<()> {
     for b in text {
         let mut shown = [0u8; 4];
@@ -147,14 +149,16 @@ fn print_row(out: &mut impl Write, row: Row) -> io::Result<()> {
 
 // What became of a message: a refusal that changed nothing (1 and 4), a stop, or its type, its number and its row.
 fn print_outcome(out: &mut impl Write, s: &[u8], code: Option<Fault>, row: Row) -> io::Result<()> {
-    match code_number(code) {
-        0 => {
+    match code {
+        None => {
             let header = header_in(s);
             write!(out, " type={} number={}", header.messagetype, header.number)?;
             print_row(out, row)
         }
-        k if k == SHORT || k == BAD_SUM => write!(out, " refused={k}"),
-        k => write!(out, " stop={k}"),
+        Some(Fault::Refused(refusal @ (Refusal::Short(_) | Refusal::BadSum(_)))) => {
+            write!(out, " refused={}", refusal.number())
+        }
+        Some(fault) => write!(out, " stop={}", fault.number()),
     }
 }
 
@@ -187,7 +191,7 @@ fn print_taken(out: &mut impl Write, at: u64, s: &[u8], row: Row) -> io::Result<
     print_business(out, s, row)
 }
 
-// The row of this sort.
+// The row of this sort. (Numbers, since `calls` lends rows as C reads them.)
 fn row_by(sort: u32, first: u32, last: u32) -> Row {
     match sort {
         ROW_BUSINESS => Row::Business(first),
@@ -211,7 +215,7 @@ fn print_rows(out: &mut impl Write, at: u64, rows: &[[u32; A_ROW]], s: &[u8]) ->
 
 // What is kept from turn to turn: the session; whether its Comp ID is ours, and not one that stands in until a message
 // names it; the offset of the first byte that is not looked at yet; how many bytes from there on go message by message;
-// whether to go on.
+// whether to go on. Flags and a count and no enum: any of them may stand beside any other.
 #[derive(Drop)]
 struct View {
     session: Session,
@@ -236,7 +240,7 @@ fn step(out: &mut impl Write, view: &mut View, capture: &mut Capture) -> io::Res
     let s = capture.left();
     let stepped = view.session.step(s);
     print_step(out, view.at, s, stepped)?;
-    if code_number(stepped.answer.code) == SHORT {
+    if let Some(Fault::Refused(Refusal::Short(_))) = stepped.answer.code {
         view.going = false;
     } else {
         let length = front_length(s);
