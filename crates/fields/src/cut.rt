@@ -84,7 +84,7 @@ pub fn bytes_at<'a>(messagetype: u8, map: &[u8], body: &'a [u8], p: usize) -> &'
 // Every position of a map's head but the first: moved on by p, those later than p.
 pub const LATER: u64 = 0x7FFFFFFFFFFFFFFF;
 
-// Two bytes as a number, the higher first. (`wire` has its own, the lower first: they share no more than a line.)
+// Two bytes as a number, the higher first.
 fn big(a: u8, b: u8) -> u64
     ensures { (result ≡ a * 256 + b) × (result < 65536) }
 {
