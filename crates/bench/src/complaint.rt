@@ -1,7 +1,6 @@
 // What the bench tells on standard error in place of an answer.
 use message::refusal::Refusal;
 use plan::NotPlanned;
-use std::alloc::AllocError;
 use std::{fmt, io};
 
 // Why a message of the list cannot be sent again: the reader refuses it, it bears another number than its place, or it has another Comp ID
@@ -68,7 +67,7 @@ impl fmt::Display for Complaint {
     }
 }
 
-// Why the bench ends: it told why it does not answer, or there is no memory, or its answer cannot be written.
+// Why the bench ends: it told why it does not answer, or its answer cannot be written.
 #[derive(Drop)]
 pub(crate) enum Failure {
     Told(Complaint),
@@ -84,11 +83,5 @@ impl From<Complaint> for Failure {
 impl From<io::Error> for Failure {
     fn from(error: io::Error) -> Failure {
         Failure::Io(error)
-    }
-}
-
-impl From<AllocError> for Failure {
-    fn from(error: AllocError) -> Failure {
-        Failure::Io(io::Error::from(error))
     }
 }

@@ -1,12 +1,13 @@
 // Both ends meet (document 02, item 14): the bench plays the gateway. It is given the gateway's published list, the bytes of its messages back to
 // back, and sends the messages of the plan again as bytes: a business message in plain form with PossDup 1, a gap fill for session numbers.
-use crate::complaint::{Complaint, Failure, Fault};
+ghost use Rattle.std.specs.Prelude.{◌≡◌, ◌≤◌, length};
+
+use crate::complaint::{Complaint, Fault};
 use crate::{ROOM, Range, is_end, planned};
 use message::frame::{Header, body_in, comp_id_in, front_length, header_in, map_in};
 use message::read::{Reading, read};
 use message::refusal::Refusal;
 use plan::A_PAIR;
-use std::alloc::AllocError;
 use std::io::{BufRead, Read};
 use tables::table::{BUSINESS_MESSAGE_REJECT, EXECUTION_REPORT};
 use wire::map::MAP_BYTES;
@@ -40,24 +41,23 @@ fn look(list: &[u8], s: &[u8], n: usize) -> Result<(bool, usize), Fault> {
     }
 }
 
-// A mark for each message of the list: 1 for a business number, 0 for a session number. A loop and no chain: each turn's step is the message's own
-// length.
-fn mark_list(rt: &impl AllocGlobal, list: &[u8]) -> Result<Vec<u8>, Failure> {
-    let mut marks = Vec::new(rt.alloc());
+// A mark for each message of the list, 1 for a business number and 0 for a session number: how many. A loop and no chain: each turn's step is the
+// message's own length.
+fn mark_list(list: &[u8], marks: &mut [u8]) -> Result<usize, Complaint> {
     let mut rest = list;
-    for n in 1..=MESSAGES {
+    for n in 0..marks.len() {
         if rest.is_empty() {
-            return Ok(marks);
+            return Ok(n);
         }
-        match look(list, rest, n) {
+        match look(list, rest, n + 1) {
             Ok((business, length)) => {
-                marks.push(u8::from(business)).map_err(AllocError::from)?;
+                marks[n] = u8::from(business);
                 rest = rest.get(length..).unwrap_or(b"");
             }
-            Err(fault) => return Err(Failure::Told(Complaint::Message(n, fault))),
+            Err(fault) => return Err(Complaint::Message(n + 1, fault)),
         }
     }
-    Err(Failure::Told(Complaint::TooMany))
+    Err(Complaint::TooMany)
 }
 
 // The message at the front of s in plain form, with PossDup 1. It was read when the list was looked at, and is not read again: the writer makes its
@@ -124,22 +124,43 @@ fn send_plan(rt: &impl Print, list: &[u8], marks: &[u8], range: Range) -> Result
     }
 }
 
+fn send_list(rt: &impl Print, list: &[u8], range: Range) -> Result<(), Complaint> {
+    let mut marks = [0u8; MESSAGES];
+    let n = mark_list(list, &mut marks)?;
+    send_plan(rt, list, marks.get(..n).unwrap_or(&marks), range)
+}
+
+// Room for a list. Its callers know its length, and need not count it out.
+fn list_room() -> [u8; LIST_BYTES]
+    ensures { 1048576 ≡ length result }
+{
+    [0; LIST_BYTES]
+}
+
+// Reads until d is full, the input ends or a read fails; how many bytes were read. A loop and no chain: each turn's step is what came.
+fn fill(input: &mut impl Read, d: &mut [u8]) -> usize
+    ensures { result ≤ length d.new }
+{
+    let mut done = 0;
+    while done < d.len() {
+        match input.read(&mut d[done..]) {
+            Ok(0) | Err(_) => break,
+            Ok(came) => done += came,
+        }
+    }
+    done
+}
+
 // The list is what is left of standard input, to its end.
 pub(crate) fn send(
-    rt: &(impl Print + AllocGlobal),
+    rt: &impl Print,
     input: &mut impl BufRead,
     range: Range,
-) -> Result<(), Failure> {
-    // With room for a byte more no other room is made, so that a read alone can fail; the next one tells.
-    let mut list = Vec::with_capacity(rt.alloc(), LIST_BYTES + 1)?;
-    let _ = input
-        .by_ref()
-        .take(LIST_BYTES as u64)
-        .read_to_end(&mut list);
+) -> Result<(), Complaint> {
+    let mut list = list_room();
+    let n = fill(input, &mut list);
     if !is_end(input)? {
-        return Err(Failure::Told(Complaint::ListTooLong));
+        return Err(Complaint::ListTooLong);
     }
-    let marks = mark_list(rt, list.as_slice())?;
-    send_plan(rt, list.as_slice(), marks.as_slice(), range)?;
-    Ok(())
+    send_list(rt, list.get(..n).unwrap_or(&list), range)
 }

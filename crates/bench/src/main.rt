@@ -24,7 +24,7 @@ mod gateway;
 use crate::complaint::{Complaint, Failure};
 use crate::gateway::send;
 use plan::{A_PAIR, NotPlanned, join, plan};
-use std::io::{BufRead, Input, Read};
+use std::io::{BufRead, Input};
 use std::{fmt, io, str};
 
 // The most bytes of the first line, and the most digits of a list.
@@ -55,30 +55,44 @@ enum Request {
     Send(Range),
 }
 
-// A line of input with its end, if it has one before the input's: so many bytes, and one more where it is too long.
-fn read_line(
-    rt: &impl AllocGlobal,
-    input: &mut impl BufRead,
-    most: usize,
-) -> Result<Vec<u8>, Failure> {
-    let most = most.saturating_add(1);
-    let mut line = Vec::with_capacity(rt.alloc(), most)?;
-    match input
-        .by_ref()
-        .take(most as u64)
-        .read_until(b'\n', &mut line)
-    {
-        Ok(_) => Ok(line),
-        Err(_) => Err(Failure::Told(Complaint::Unread)),
+// The next byte of the input, or none at its end.
+fn next_byte(input: &mut impl BufRead) -> Result<Option<u8>, Complaint> {
+    let next = match input.fill_buf() {
+        Ok(rest) => rest.first().copied(),
+        Err(_) => return Err(Complaint::Unread),
+    };
+    if next.is_some() {
+        input.consume(1);
     }
+    Ok(next)
 }
 
 // Whether nothing follows.
 pub(crate) fn is_end(input: &mut impl BufRead) -> Result<bool, Complaint> {
-    match input.fill_buf() {
-        Ok(rest) => Ok(rest.is_empty()),
-        Err(_) => Err(Complaint::Unread),
+    Ok(next_byte(input)?.is_none())
+}
+
+// What stands behind the bytes of a line: its end, the input's end, or more of the line, for which there is no room.
+#[derive(Clone, Copy)]
+enum Behind {
+    LineEnd,
+    InputEnd,
+    More,
+}
+
+// A line of input, without its end: how many bytes of it are in the room, and what stands behind them.
+fn read_line(input: &mut impl BufRead, room: &mut [u8]) -> Result<(usize, Behind), Complaint> {
+    for n in 0..=room.len() {
+        match next_byte(input)? {
+            None => return Ok((n, Behind::InputEnd)),
+            Some(b'\n') => return Ok((n, Behind::LineEnd)),
+            Some(b) => match room.get_mut(n) {
+                Some(place) => *place = b,
+                None => return Ok((n, Behind::More)),
+            },
+        }
     }
+    Ok((room.len(), Behind::More))
 }
 
 // The number at the front, in decimal digits, and what stands behind it.
@@ -220,38 +234,52 @@ fn print_whole(rt: &impl Print, list: &[u8], range: Range) -> io::Result<()> {
     print_planned(rt, planned(list, range, &mut room))
 }
 
-// The list is the second line, behind which nothing may follow.
-fn read_list(rt: &impl AllocGlobal, input: &mut impl BufRead) -> Result<Vec<u8>, Failure> {
-    let mut list = read_line(rt, input, LIST)?;
-    if list.as_slice().ends_with(b"\n") {
-        if !is_end(input)? {
-            return Err(Failure::Told(Complaint::TooLong));
-        }
-        list.pop();
-    } else if LIST < list.len() {
-        return Err(Failure::Told(Complaint::TooLong));
-    } else if list.is_empty() {
-        return Err(Failure::Told(Complaint::Usage));
-    }
-    mark(list.as_mut_slice())?;
-    Ok(list)
-}
-
-fn answer(rt: &(impl Print + AllocGlobal), input: &mut impl BufRead) -> Result<(), Failure> {
-    let line = read_line(rt, input, FIRST_LINE)?;
-    let request = match line.as_slice().strip_suffix(b"\n") {
-        Some(line) => asked(line),
-        None => None,
-    };
-    match request {
-        Some(Request::Plan(range, split)) => {
-            let list = read_list(rt, input)?;
-            match split {
-                Some(m) => print_split(rt, list.as_slice(), range, m),
-                None => Ok(print_whole(rt, list.as_slice(), range)?),
+// The list is the second line, behind which nothing may follow: how many numbers it has.
+fn read_list(input: &mut impl BufRead, list: &mut [u8]) -> Result<usize, Complaint> {
+    let (n, behind) = read_line(input, list)?;
+    match behind {
+        Behind::LineEnd => {
+            if !is_end(input)? {
+                return Err(Complaint::TooLong);
             }
         }
-        Some(Request::Send(range)) => send(rt, input, range),
+        Behind::InputEnd => {
+            if n == 0 {
+                return Err(Complaint::Usage);
+            }
+        }
+        Behind::More => return Err(Complaint::TooLong),
+    }
+    mark(list.get_mut(..n).unwrap_or(&mut []))?;
+    Ok(n)
+}
+
+// The plan of the list, or where it is split the plan in two and joined again.
+fn plan_list(
+    rt: &impl Print,
+    input: &mut impl BufRead,
+    range: Range,
+    split: Option<u32>,
+) -> Result<(), Failure> {
+    let mut list = [0u8; LIST];
+    let n = read_list(input, &mut list)?;
+    let list = list.get(..n).unwrap_or(&list);
+    match split {
+        Some(m) => print_split(rt, list, range, m),
+        None => Ok(print_whole(rt, list, range)?),
+    }
+}
+
+// The first line says what is asked.
+fn answer(rt: &impl Print, input: &mut impl BufRead) -> Result<(), Failure> {
+    let mut room = [0u8; FIRST_LINE];
+    let request = match read_line(input, &mut room)? {
+        (n, Behind::LineEnd) => asked(room.get(..n).unwrap_or(&room)),
+        (_, Behind::InputEnd | Behind::More) => None,
+    };
+    match request {
+        Some(Request::Plan(range, split)) => plan_list(rt, input, range, split),
+        Some(Request::Send(range)) => Ok(send(rt, input, range)?),
         None => Err(Failure::Told(Complaint::Usage)),
     }
 }

@@ -77,6 +77,10 @@ fn to_front(buf: &mut [u8], from: usize, end: usize) -> usize
     if end < from || buf.len() < end {
         return 0;
     }
+    // Bytes that stand at the front are not moved onto themselves: a long line may come by many reads.
+    if from == 0 {
+        return end;
+    }
     buf.copy_within(from..end, 0);
     end - from
 }

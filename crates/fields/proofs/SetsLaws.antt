@@ -3,11 +3,12 @@
 use mathlib.Core.Path.{◌≡◌, refl, sym, ap, ◌∙◌}
 use mathlib.Core.Bool.{Bool, true, false, cond, not}
 use mathlib.Core.List.{List}
-use Prim.Native.Nat.{ℕ, ◌+◌, ◌≤◌, ◌<◌}
+use Prim.Native.Nat.{ℕ, ◌+◌, ◌*◌, ◌≤◌, ◌<◌}
 use native.Mathlib.Omega.{arith}
 use borrow.Author.Tests.{lt-ltb, ltb-true, ltb-false, eqb-true, eqb-false}
 use denote.Enum.Bare.{sameb, true_same, false_same}
 use lib.Dec.{eqb, ltb}
+use lib.ListN.{length, get_or}
 use Rattle.tables.specs.contracts.dictionary.Field.{the_type}
 use Rattle.tables.specs.Dictionary.{row_number}
 use Rattle.tables.proofs.Agree.{one_number}
@@ -15,8 +16,9 @@ use Rattle.tables.specs.declared.dictionary.Field.{Field}
 use Rattle.tables.specs.declared.table.Row.{Row}
 use Rattle.tables.specs.Line.{is_required}
 use Rattle.tables.specs.Tables.{row_of, span_of}
-use Rattle.wire.specs.Map.{present}
+use Rattle.wire.specs.Map.{bit_at, present, next_bit}
 use Rattle.wire.specs.Search.{first_from}
+use Rattle.wire.proofs.MapLaws.{present-at}
 use Rattle.wire.proofs.SearchLaws.{first-is, first_found}
 use Rattle.std.specs.Prelude.{Some, None}
 use Rattle.fields.specs.Sets.{
@@ -31,6 +33,7 @@ use Rattle.fields.specs.Sets.{
   stands_at,
   position_of,
 }
+use Rattle.fields.proofs.PositionLaws.{present-between, present-beyond}
 use Rattle.fields.proofs.SpanLaws.{span-within, beyond-none, beyond-required}
 
 -- no position below n passes
@@ -84,14 +87,38 @@ module _ (rows : ℕ → Row) (m : List ℕ) where
       go true = refl
       go false = refl
 
-  -- a loop over a map's positions
-  pub unknown-hit : (p : ℕ) → p < 256 → unknown_at rows m p ≡ true → NoneBelow (unknown_at rows m) p → Some p ≡ lowest_unknown rows m
-  unfolding lowest_unknown
-  unknown-hit p l e h = place_at (unknown_at rows m) p l (first-at (unknown_at rows m) p l h e)
+  unknown-set : (p : ℕ) → present m p ≡ true → unknown_to rows p ≡ true → unknown_at rows m p ≡ true
+  unfolding unknown_at
+  unknown-set p h e = rw (h, e)
 
-  pub unknown-end : NoneBelow (unknown_at rows m) 256 → None ≡ lowest_unknown rows m
+  -- a loop over the bytes of a map, and in it one over the set places of a byte
+  pub unknown-enter : (i r : ℕ) → r ≡ next_bit (get_or m i 0) 0 → NoneBelow (unknown_at rows m) (i * 8) → NoneBelow (unknown_at rows m) (i * 8 + r)
+  unknown-enter i r x h =
+      none-up-to (unknown_at rows m) (i * 8) (i * 8 + r) h (λ k l u. unknown-clear k (present-between m i 0 r x k (omega arith) u))
+
+  pub unknown-pass : (i j r : ℕ) → r ≡ next_bit (get_or m i 0) (j + 1) → unknown_to rows (i * 8 + j) ≡ false
+      → NoneBelow (unknown_at rows m) (i * 8 + j) → NoneBelow (unknown_at rows m) (i * 8 + r)
+  unknown-pass i j r x e h =
+      none-up-to (unknown_at rows m) (i * 8 + j + 1) (i * 8 + r)
+      (none-below-next (unknown_at rows m) (i * 8 + j) h (unknown-known (i * 8 + j) e))
+      (λ k l u. unknown-clear k (present-between m i (j + 1) r x k (omega arith) u))
+
+  pub unknown-hit : (i j : ℕ) → i < 32 → j < 8 → bit_at (get_or m i 0) j ≡ true → unknown_to rows (i * 8 + j) ≡ true
+      → NoneBelow (unknown_at rows m) (i * 8 + j) → Some (i * 8 + j) ≡ lowest_unknown rows m
   unfolding lowest_unknown
-  unknown-end h = place_none (unknown_at rows m) (first-none (unknown_at rows m) h)
+  unknown-hit i j u l b e h =
+      let v : i * 8 + j < 256 = omega arith in
+      place_at (unknown_at rows m) (i * 8 + j) v (first-at (unknown_at rows m) (i * 8 + j) v h (unknown-set (i * 8 + j) (present-at m i j l ∙ b) e))
+
+  pub unknown-leave : (i j : ℕ) → j ≡ 8 → NoneBelow (unknown_at rows m) (i * 8 + j) → NoneBelow (unknown_at rows m) ((i + 1) * 8)
+  unknown-leave i j e h = let z : (i + 1) * 8 ≡ i * 8 + j = omega arith in rw z h
+
+  -- all 32 bytes are passed, or the map has ended
+  pub unknown-end : (i : ℕ) → (i < 32 → length m ≤ i) → NoneBelow (unknown_at rows m) (i * 8) → None ≡ lowest_unknown rows m
+  unfolding lowest_unknown
+  unknown-end i e h =
+      place_none (unknown_at rows m)
+      (first-none (unknown_at rows m) (none-up-to (unknown_at rows m) (i * 8) 256 h (λ k l v. unknown-clear k (present-beyond m i (e (omega arith)) k l))))
 
 -- a loop over the positions of a type's span, none at or past which passes
 module _ (test : ℕ → Bool) (messagetype : ℕ) (beyond : (k : ℕ) → span_of messagetype ≤ k → test k ≡ false) where

@@ -1,19 +1,19 @@
 // The known and the required set of a message type, against a map. Both follow from the tables.
 ghost use Rattle.std.specs.Prelude.{◌≡◌, ◌<◌, ◌+◌, ◌*◌};
 ghost use Rattle.tables.specs.Tables.{row_of};
-ghost use Rattle.fields.specs.Sets.{unknown_at, missing_at, lowest_unknown, lowest_missing, is_row_of, position_of};
+ghost use Rattle.fields.specs.Sets.{unknown_to, missing_at, lowest_unknown, lowest_missing, is_row_of, position_of};
 
 use crate::words::{is_low, required_word, unknown_word, word_at};
 use tables::dictionary::Field;
 use tables::table::{Row, row_of, span_of};
-use wire::map::{MAP_POSITIONS, is_present};
+use wire::map::{MAP_BYTES, MAP_POSITIONS, is_present, next_bit};
 
-// Whether the map has position p and the type does not know it.
-#[tactic(auto, unfolding(crate::specs::Sets::unknown_at, crate::specs::Sets::unknown_to))]
-fn is_stray(messagetype: u8, map: &[u8], p: usize) -> bool
-    ensures { result ≡ unknown_at (row_of messagetype) map.now p }
+// Whether the type does not know position p.
+#[tactic(auto, unfolding(crate::specs::Sets::unknown_to))]
+fn is_unknown(messagetype: u8, p: usize) -> bool
+    ensures { result ≡ unknown_to (row_of messagetype) p }
 {
-    is_present(map, p) && !row_of(messagetype, p).is_known()
+    !row_of(messagetype, p).is_known()
 }
 
 // Whether the type requires position p and the map has it clear.
@@ -24,14 +24,21 @@ fn is_missing(messagetype: u8, map: &[u8], p: usize) -> bool
     row_of(messagetype, p).is_required() && !is_present(map, p)
 }
 
-// The lowest set position that the type does not know, one by one. Each search here has its own loop: they differ in the test and
-// in how far they look, and beside these a shared one would leave nothing but the call.
+// The lowest set position that the type does not know: over map bytes, and in each over its set bits, as the walk goes. Only set
+// positions are looked up. Each search here has its own loop: they differ in the test and in how far they look, and beside these a
+// shared one would leave nothing but the call.
 fn search_unknown(messagetype: u8, map: &[u8]) -> Option<usize>
     ensures { result ≡ lowest_unknown (row_of messagetype) map.now }
 {
-    for p in 0..MAP_POSITIONS {
-        if is_stray(messagetype, map, p) {
-            return Some(p);
+    for i in 0..map.len().min(MAP_BYTES) {
+        let byte = map[i];
+        let mut j = next_bit(byte, 0);
+        while j < 8 {
+            let p = i * 8 + j as usize;
+            if is_unknown(messagetype, p) {
+                return Some(p);
+            }
+            j = next_bit(byte, j + 1);
         }
     }
     None

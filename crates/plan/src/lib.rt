@@ -172,14 +172,24 @@ fn seam(one: &[u32], other: &[u32]) -> usize
     }
 }
 
+// All of the numbers over the first of d. A loop, and not `copy_from_slice`: that is a call of C's `memmove`, which the archive for C
+// is not to need from outside.
+fn lay(ns: &[u32], d: &mut [u32])
+    requires { length ns.now ≤ length d.old }
+    ensures { d.new ≡ at_front ns.now d.old }
+{
+    for i in 0..ns.len() {
+        d[i] = ns[i];
+    }
+}
+
 // The one's numbers over the first of d, and more behind them.
 fn lay_both(one: &[u32], more: &[u32], d: &mut [u32])
     requires { length one.now + length more.now ≤ length d.old }
     ensures { d.new ≡ at_front (one.now ++ more.now) d.old }
 {
-    let seam = one.len();
-    d[..seam].copy_from_slice(one);
-    d[seam..seam + more.len()].copy_from_slice(more);
+    lay(one, d);
+    lay(more, &mut d[one.len()..]);
 }
 
 // Writes the joined plan to the front of d: the two gap fills that touch become one, which leads where the other's did.

@@ -71,6 +71,7 @@ impl Capture {
                 Ok(came) => sum = sum.saturating_add(came as u64),
             }
         }
+        self.ended = true;
         sum
     }
 }

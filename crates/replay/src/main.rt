@@ -10,9 +10,11 @@
 
 mod asked;
 mod capture;
+mod out;
 
 use crate::asked::{A_WORD, Asked, hear};
-use crate::capture::{BUFFER, Capture};
+use crate::capture::Capture;
+use crate::out::Out;
 use calls::{A_ROW, A_SEND, Done, steps};
 use message::frame::{COMP_ID_BYTES, check_frame, comp_id_in, front_length, header_in};
 use message::list::{A_FIELD, DECIMAL, Listed, NUMBER, TEXT, list_fields};
@@ -25,7 +27,7 @@ use session::state::{
 };
 use spelt::{put_amount, put_shown};
 use std::env::Env;
-use std::io::{BufWriter, Read, Write};
+use std::io::{Read, Write};
 use std::rt::Files;
 use std::{fs, io, str};
 use tables::dictionary::{Field, Sort, sort_of};
@@ -138,13 +140,14 @@ fn print_send(out: &mut impl Write, send: Send) -> io::Result<()> {
 }
 
 fn print_row(out: &mut impl Write, row: Row) -> io::Result<()> {
-    match row {
-        Row::Nothing => out.write_all(b" row=none"),
-        Row::Business(n) => write!(out, " row=business first={n} last={n}"),
-        Row::Session(n) => write!(out, " row=session first={n} last={n}"),
-        Row::Filled(first, last) => write!(out, " row=filled first={first} last={last}"),
-        Row::Reset(first, last) => write!(out, " row=reset first={first} last={last}"),
-    }
+    let (name, first, last) = match row {
+        Row::Nothing => return out.write_all(b" row=none"),
+        Row::Business(n) => ("business", n, n),
+        Row::Session(n) => ("session", n, n),
+        Row::Filled(first, last) => ("filled", first, last),
+        Row::Reset(first, last) => ("reset", first, last),
+    };
+    write!(out, " row={name} first={first} last={last}")
 }
 
 // What became of a message: a refusal that changed nothing (1 and 4), a stop, or its type, its number and its row.
@@ -346,11 +349,11 @@ fn turn(
 // The last line: where the view ended, the session then, and how many bytes were not looked at.
 fn print_end(out: &mut impl Write, view: &View, left: u64) -> io::Result<()> {
     let state = match view.session.state() {
-        State::Down => "down",
-        State::Waiting => "waiting",
-        State::Live => "live",
+        State::Down => " state=down",
+        State::Waiting => " state=waiting",
+        State::Live => " state=live",
     };
-    write!(out, "end at={} state={state}", view.at)?;
+    write!(out, "end at={}{state}", view.at)?;
     write!(out, " next={}", view.session.expected())?;
     writeln!(out, " own={} left={left}", view.session.own())
 }
@@ -394,21 +397,14 @@ fn follow(
     out.flush()
 }
 
-fn replay(
-    rt: &(impl Print + Eprint + AllocGlobal),
-    input: &mut impl Read,
-    asked: &Asked,
-) -> io::Result<()> {
+fn replay(rt: &(impl Print + Eprint), input: &mut impl Read, asked: &Asked) {
     let mut capture = Capture::new();
-    let mut out = BufWriter::with_capacity(rt.alloc(), BUFFER, io::writer(rt))?;
+    let mut out = Out::new(rt);
     if follow(rt, &mut out, input, &mut capture, asked).is_err() {
         complain(rt, "the standard output cannot be written");
         // What sends the capture is not cut off.
         capture.count_left(input);
     }
-    // What a failed write left is not written again.
-    let _ = out.into_parts();
-    Ok(())
 }
 
 // The system's words for an error, behind which std says its number.
@@ -428,41 +424,27 @@ fn fail(rt: &(impl Eprint + Alloc), path: &str, error: io::Error) {
 }
 
 // The capture in the file of this name.
-fn open(
-    rt: &(impl Print + Eprint + Files + AllocGlobal),
-    path: &str,
-    asked: &Asked,
-) -> io::Result<()> {
+fn open(rt: &(impl Print + Eprint + Files + Alloc), path: &str, asked: &Asked) {
     match fs::open(rt, path) {
         Ok(mut file) => replay(rt, &mut file, asked),
-        Err(error) => {
-            fail(rt, path, error);
-            Ok(())
-        }
+        Err(error) => fail(rt, path, error),
     }
 }
 
 // The capture in FILE, which is argument i. std opens a file by a name in UTF-8 alone.
-fn replay_file(
-    rt: &(impl Print + Eprint + Files + Env + AllocGlobal),
-    i: usize,
-    asked: &Asked,
-) -> io::Result<()> {
+fn replay_file(rt: &(impl Print + Eprint + Files + Env + Alloc), i: usize, asked: &Asked) {
     let mut word = [0u8; A_WORD];
     let n = rt.arg(i, &mut word).unwrap_or(0);
     match str::from_utf8(word.get(..n).unwrap_or(b"")) {
         Ok(path) => open(rt, path, asked),
-        Err(_) => {
-            complain(rt, "the name of FILE is not UTF-8");
-            Ok(())
-        }
+        Err(_) => complain(rt, "the name of FILE is not UTF-8"),
     }
 }
 
-fn main(rt: HostRuntime) -> io::Result<()> {
+fn main(rt: HostRuntime) {
     let Some(asked) = hear(&rt) else {
         let _ = eprintln!(&rt; "usage: replay [comp=ID] [expected=E] [own=O] [FILE]");
-        return Ok(());
+        return;
     };
     match asked.path {
         Some(i) => replay_file(&rt, i, &asked),

@@ -13,6 +13,8 @@
 // A line that begins with # is passed over.
 #![tactic(auto)]
 
+ghost use Rattle.std.specs.Prelude.{◌≤◌, length};
+
 use fields::value::Value;
 use message::ask::{ask_number, ask_number_of, ask_text, text};
 use message::read::{Reading, body, comp_id, map, read};
@@ -134,16 +136,18 @@ fn byte(pair: &[u8; 2]) -> Option<u8> {
     Some(digit(high)? << 4 | digit(low)?)
 }
 
-// The bytes that hexadecimal digits stand for, up to what is no pair of digits.
-fn decode(rt: &impl AllocGlobal, digits: &[u8]) -> io::Result<Vec<u8>> {
+// The bytes that hexadecimal digits stand for, up to what is no pair of digits, at the front of the room.
+fn decode<'a>(digits: &[u8], room: &'a mut [u8]) -> &'a [u8] {
     let (pairs, _) = digits.as_chunks();
-    Ok(
-        pairs
-            .iter()
-            .map_while(|pair| byte(pair))
-            .take(ROOM)
-            .collect(rt.alloc())?,
-    )
+    let mut n: usize = 0;
+    for (place, b) in room
+        .iter_mut()
+        .zip(pairs.iter().map_while(|pair| byte(pair)))
+    {
+        *place = b;
+        n = n.saturating_add(1);
+    }
+    room.get(..n).unwrap_or(b"")
 }
 
 // The word at the front, and what stands behind the space that ends it.
@@ -252,32 +256,27 @@ fn saved(rt: &impl Print, words: &[u8]) -> io::Result<Session> {
 }
 
 // A question about the message whose bytes stand in the words, or about one position of it.
-fn ask(rt: &(impl Print + AllocGlobal), letter: u8, words: &[u8]) -> io::Result<()> {
+fn ask(rt: &impl Print, letter: u8, words: &[u8]) -> io::Result<()> {
+    let mut room = [0u8; ROOM];
     match letter {
-        b'r' => print_reading(rt, decode(rt, words)?.as_slice()),
-        b'p' => print_plain(rt, decode(rt, words)?.as_slice()),
+        b'r' => print_reading(rt, decode(words, &mut room)),
+        b'p' => print_plain(rt, decode(words, &mut room)),
         b'n' => {
             let (position, digits) = cut(words);
-            let message = decode(rt, digits)?;
-            print_asked(
-                rt,
-                ask_number(message.as_slice(), number(position) as usize),
-            )
+            let message = decode(digits, &mut room);
+            print_asked(rt, ask_number(message, number(position) as usize))
         }
         b't' => {
             let (position, digits) = cut(words);
-            print_text(
-                rt,
-                decode(rt, digits)?.as_slice(),
-                number(position) as usize,
-            )
+            let message = decode(digits, &mut room);
+            print_text(rt, message, number(position) as usize)
         }
         _ => Ok(()),
     }
 }
 
 // One line, without its end, by its first letter: a word, and what goes with it. The session after it.
-fn run(rt: &(impl Print + AllocGlobal), s: Session, line: &[u8]) -> io::Result<Session> {
+fn run(rt: &impl Print, s: Session, line: &[u8]) -> io::Result<Session> {
     let letter = match line.first() {
         None | Some(b'#') => return Ok(s),
         Some(letter) => *letter,
@@ -288,7 +287,7 @@ fn run(rt: &(impl Print + AllocGlobal), s: Session, line: &[u8]) -> io::Result<S
         b's' => saved(rt, words)?,
         b'c' => connected(rt, s.connect(words))?,
         b'd' => dropped(rt, s)?,
-        b'u' => stepped(rt, s.step(decode(rt, words)?.as_slice()))?,
+        b'u' => stepped(rt, s.step(decode(words, &mut [0u8; ROOM])))?,
         _ => {
             ask(rt, letter, words)?;
             s
@@ -298,7 +297,7 @@ fn run(rt: &(impl Print + AllocGlobal), s: Session, line: &[u8]) -> io::Result<S
     Ok(next)
 }
 
-fn run_lines(rt: &(impl Print + AllocGlobal), input: &[u8]) -> io::Result<()> {
+fn run_lines(rt: &impl Print, input: &[u8]) -> io::Result<()> {
     let mut session = Session::fresh(b"").session;
     for line in input.split(|b| *b == b'\n') {
         session = run(rt, session, line)?;
@@ -306,9 +305,24 @@ fn run_lines(rt: &(impl Print + AllocGlobal), input: &[u8]) -> io::Result<()> {
     Ok(())
 }
 
+// Reads until d is full, the input ends or a read fails; how many bytes were read. A loop and no chain: each turn's step is what
+// came.
+fn fill(input: &mut impl Read, d: &mut [u8]) -> usize
+    ensures { result ≤ length d.new }
+{
+    let mut done = 0;
+    while done < d.len() {
+        match input.read(&mut d[done..]) {
+            Ok(0) | Err(_) => break,
+            Ok(came) => done += came,
+        }
+    }
+    done
+}
+
+// What is read and what a line's digits stand for lie in arrays: the program has no heap.
 fn main(rt: HostRuntime) -> io::Result<()> {
-    // With room for a byte more no other room is made, so that a read alone can fail. What came before it is run all the same.
-    let mut input = Vec::with_capacity(rt.alloc(), MOST + 1)?;
-    let _ = rt.stdin().take(MOST as u64).read_to_end(&mut input);
-    run_lines(&rt, input.as_slice())
+    let mut input = [0u8; MOST];
+    let n = fill(&mut rt.stdin(), &mut input);
+    run_lines(&rt, input.get(..n).unwrap_or(&input))
 }

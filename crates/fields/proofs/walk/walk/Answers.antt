@@ -63,8 +63,8 @@ loop-i-preserved c =
       walk-leave (row_of _) _ 256 _ _ _ _ _ j c.loop-j.invariant.3,
     )
 
-pub returns : goal.returns
-returns c =
+pub returns-after-loop-i : goal.returns-after-loop-i
+returns-after-loop-i c =
     let m = c.args.map.now in
     let i = c.loop-i.i in
     let e : i ≡ c.end_of-end.result = omega (arith, c.loop-i-test.false) in
