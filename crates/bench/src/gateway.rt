@@ -3,7 +3,7 @@
 ghost use Rattle.std.specs.Prelude.{◌≡◌, ◌≤◌, length};
 
 use crate::complaint::{Complaint, Fault};
-use crate::{ROOM, Range, is_end, planned};
+use crate::{Range, is_end, planned};
 use message::frame::{Header, body_in, comp_id_in, front_length, header_in, map_in};
 use message::read::{Reading, read};
 use message::refusal::Refusal;
@@ -15,10 +15,8 @@ use wire::text::LONGEST;
 use writer::send::put_gap_fill;
 use writer::write::write;
 
-// The most bytes of a list. No message is shorter than 58, so a list has at most 18,078 of them, fewer than are looked at.
+// The most bytes of a list. No message is shorter than 58, so a list has at most 18,078 of them, fewer than have marks.
 const LIST_BYTES: usize = 1048576;
-
-const MESSAGES: usize = 65536;
 
 // Whether messages of this type are handed up (document 01, rule 9).
 fn is_business(messagetype: u8) -> bool {
@@ -116,18 +114,17 @@ fn send_parts(rt: &impl Print, list: &[u8], pairs: &[[u32; A_PAIR]]) -> Result<(
     Ok(())
 }
 
-fn send_plan(rt: &impl Print, list: &[u8], marks: &[u8], range: Range) -> Result<(), Complaint> {
-    let mut room = [0u32; ROOM];
-    match planned(marks, range, &mut room) {
+fn send_plan(
+    rt: &impl Print,
+    list: &[u8],
+    marks: &[u8],
+    range: Range,
+    room: &mut [u32],
+) -> Result<(), Complaint> {
+    match planned(marks, range, room) {
         Ok(pairs) => send_parts(rt, list, pairs),
         Err(refused) => Err(Complaint::Refused(refused)),
     }
-}
-
-fn send_list(rt: &impl Print, list: &[u8], range: Range) -> Result<(), Complaint> {
-    let mut marks = [0u8; MESSAGES];
-    let n = mark_list(list, &mut marks)?;
-    send_plan(rt, list, marks.get(..n).unwrap_or(&marks), range)
 }
 
 // Room for a list. Its callers know its length, and need not count it out.
@@ -151,16 +148,22 @@ fn fill(input: &mut impl Read, d: &mut [u8]) -> usize
     done
 }
 
-// The list is what is left of standard input, to its end.
+// The list is what is left of standard input, to its end; the room for its marks and that for the pairs of the plan are lent. The list is in
+// a frame of its own, for which no other request needs the stack.
+#[inline(never)]
 pub(crate) fn send(
     rt: &impl Print,
     input: &mut impl BufRead,
     range: Range,
+    marks: &mut [u8],
+    room: &mut [u32],
 ) -> Result<(), Complaint> {
-    let mut list = list_room();
-    let n = fill(input, &mut list);
+    let mut bytes = list_room();
+    let n = fill(input, &mut bytes);
     if !is_end(input)? {
         return Err(Complaint::ListTooLong);
     }
-    send_list(rt, list.get(..n).unwrap_or(&list), range)
+    let list = bytes.get(..n).unwrap_or(&bytes);
+    let messages = mark_list(list, marks)?;
+    send_plan(rt, list, marks.get(..messages).unwrap_or(&[]), range, room)
 }

@@ -213,15 +213,22 @@ fn print_joined(
     }
 }
 
-// The plan for Start to m and the plan for m + 1 to End, and the two joined. No number follows the last one.
-fn print_split(rt: &impl Print, list: &[u8], range: Range, m: u32) -> Result<(), Failure> {
+// The plan for Start to m and the plan for m + 1 to End, and the two joined. No number follows the last one. Its rooms are in a frame of its
+// own, for which the other requests need no stack.
+#[inline(never)]
+fn print_split(
+    rt: &impl Print,
+    list: &[u8],
+    range: Range,
+    m: u32,
+    room: &mut [u32],
+) -> Result<(), Failure> {
     let Some(next) = m.checked_add(1) else {
         return Err(Failure::Told(Complaint::Usage));
     };
-    let mut one = [0u32; ROOM];
     let mut other = [0u32; ROOM];
     let Range { start, end } = range;
-    let first = print_named(rt, list, Range { start, end: m }, &mut one)?;
+    let first = print_named(rt, list, Range { start, end: m }, room)?;
     let second = print_named(rt, list, Range { start: next, end }, &mut other)?;
     if let (Ok(first), Ok(second)) = (first, second) {
         print_joined(rt, range, first, second)?;
@@ -229,9 +236,8 @@ fn print_split(rt: &impl Print, list: &[u8], range: Range, m: u32) -> Result<(),
     Ok(())
 }
 
-fn print_whole(rt: &impl Print, list: &[u8], range: Range) -> io::Result<()> {
-    let mut room = [0u32; ROOM];
-    print_planned(rt, planned(list, range, &mut room))
+fn print_whole(rt: &impl Print, list: &[u8], range: Range, room: &mut [u32]) -> io::Result<()> {
+    print_planned(rt, planned(list, range, room))
 }
 
 // The list is the second line, behind which nothing may follow: how many numbers it has.
@@ -257,29 +263,33 @@ fn read_list(input: &mut impl BufRead, list: &mut [u8]) -> Result<usize, Complai
 // The plan of the list, or where it is split the plan in two and joined again.
 fn plan_list(
     rt: &impl Print,
-    input: &mut impl BufRead,
+    list: &[u8],
     range: Range,
     split: Option<u32>,
+    room: &mut [u32],
 ) -> Result<(), Failure> {
-    let mut list = [0u8; LIST];
-    let n = read_list(input, &mut list)?;
-    let list = list.get(..n).unwrap_or(&list);
     match split {
-        Some(m) => print_split(rt, list, range, m),
-        None => Ok(print_whole(rt, list, range)?),
+        Some(m) => print_split(rt, list, range, m, room),
+        None => Ok(print_whole(rt, list, range, room)?),
     }
 }
 
-// The first line says what is asked.
+// The first line says what is asked. The list and the room for its plan are here, since both kinds of request lend them.
 fn answer(rt: &impl Print, input: &mut impl BufRead) -> Result<(), Failure> {
-    let mut room = [0u8; FIRST_LINE];
-    let request = match read_line(input, &mut room)? {
-        (n, Behind::LineEnd) => asked(room.get(..n).unwrap_or(&room)),
+    let mut line = [0u8; FIRST_LINE];
+    let request = match read_line(input, &mut line)? {
+        (n, Behind::LineEnd) => asked(line.get(..n).unwrap_or(&line)),
         (_, Behind::InputEnd | Behind::More) => None,
     };
+    let mut list = [0u8; LIST];
+    let mut room = [0u32; ROOM];
     match request {
-        Some(Request::Plan(range, split)) => plan_list(rt, input, range, split),
-        Some(Request::Send(range)) => Ok(send(rt, input, range)?),
+        Some(Request::Plan(range, split)) => {
+            let n = read_list(input, &mut list)?;
+            let list = list.get(..n).unwrap_or(&list);
+            plan_list(rt, list, range, split, &mut room)
+        }
+        Some(Request::Send(range)) => Ok(send(rt, input, range, &mut list, &mut room)?),
         None => Err(Failure::Told(Complaint::Usage)),
     }
 }

@@ -1,4 +1,4 @@
-// What is printed: it stands in a buffer until that is full. An array and no Vec: the program has no heap.
+// What is printed: it stands in a buffer until that is full. An array and no Vec: printing takes no heap.
 ghost use Rattle.std.specs.Prelude.{◌≤◌};
 
 use crate::capture::BUFFER;
