@@ -103,23 +103,26 @@ fn characters_of_accented(rt: &impl Print) -> io::Result<()> {
     )
 }
 
-// A character is shown as these bytes.
-fn shown(rt: &impl Print, name: &str, b: u8, want: &[u8]) -> io::Result<()> {
+// A character is shown as so many bytes, which stand before zeros.
+fn shown(rt: &impl Print, name: &str, b: u8, count: usize, want: &[u8; 4]) -> io::Result<()> {
     let mut d = [0u8; 4];
-    let right = match put_shown(&mut d, b) {
-        Ok(n) => d.get(..n) == Some(want),
-        Err(_) => false,
-    };
+    let right = put_shown(&mut d, b) == Ok(count) && d == *want;
     println!(rt; "{name}: {}", verdict(right))
 }
 
 fn characters_shown(rt: &impl Print) -> io::Result<()> {
-    shown(rt, "e acute, 233, shown as C3 A9", 0xE9, b"\xC3\xA9")?;
+    shown(rt, "e acute, 233, shown as C3 A9", 0xE9, 2, b"\xC3\xA9\0\0")?;
     let first = "the first of Latin-1, 160, shown as C2 A0";
-    shown(rt, first, 0xA0, b"\xC2\xA0")?;
-    shown(rt, "the last, 255, shown as C3 BF", 0xFF, b"\xC3\xBF")?;
-    shown(rt, "a control, 155, shown as \\x9B", 0x9B, b"\\x9B")?;
-    shown(rt, "a backslash shown as two", 0x5C, b"\\\\")
+    shown(rt, first, 0xA0, 2, b"\xC2\xA0\0\0")?;
+    shown(
+        rt,
+        "the last, 255, shown as C3 BF",
+        0xFF,
+        2,
+        b"\xC3\xBF\0\0",
+    )?;
+    shown(rt, "a control, 155, shown as \\x9B", 0x9B, 4, b"\\x9B")?;
+    shown(rt, "a backslash shown as two", 0x5C, 2, b"\\\\\0\0")
 }
 
 fn main(rt: HostRuntime) -> io::Result<()> {
