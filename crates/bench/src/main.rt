@@ -82,17 +82,19 @@ enum Behind {
 
 // A line of input, without its end: how many bytes of it are in the room, and what stands behind them.
 fn read_line(input: &mut impl BufRead, room: &mut [u8]) -> Result<(usize, Behind), Complaint> {
-    for n in 0..=room.len() {
+    for n in 0..room.len() {
         match next_byte(input)? {
-            None => return Ok((n, Behind::InputEnd)),
             Some(b'\n') => return Ok((n, Behind::LineEnd)),
-            Some(b) => match room.get_mut(n) {
-                Some(place) => *place = b,
-                None => return Ok((n, Behind::More)),
-            },
+            Some(b) => room[n] = b,
+            None => return Ok((n, Behind::InputEnd)),
         }
     }
-    Ok((room.len(), Behind::More))
+    let behind = match next_byte(input)? {
+        Some(b'\n') => Behind::LineEnd,
+        Some(_) => Behind::More,
+        None => Behind::InputEnd,
+    };
+    Ok((room.len(), behind))
 }
 
 // The number at the front, in decimal digits, and what stands behind it.
@@ -236,10 +238,6 @@ fn print_split(
     Ok(())
 }
 
-fn print_whole(rt: &impl Print, list: &[u8], range: Range, room: &mut [u32]) -> io::Result<()> {
-    print_planned(rt, planned(list, range, room))
-}
-
 // The list is the second line, behind which nothing may follow: how many numbers it has.
 fn read_list(input: &mut impl BufRead, list: &mut [u8]) -> Result<usize, Complaint> {
     let (n, behind) = read_line(input, list)?;
@@ -270,7 +268,7 @@ fn plan_list(
 ) -> Result<(), Failure> {
     match split {
         Some(m) => print_split(rt, list, range, m, room),
-        None => Ok(print_whole(rt, list, range, room)?),
+        None => Ok(print_planned(rt, planned(list, range, room))?),
     }
 }
 
